@@ -1,0 +1,35 @@
+// A 12-bit length with the four bits beside it: one thing, two bytes.
+ghost use mathlib.Core.Path.{_≡_};
+ghost use Prim.Native.Nat.{_%_, _+_};
+ghost use Rattle.wire.specs.Lengths.{lengthField, lengthBytes, longest, widestBeside};
+
+pub struct LengthField {
+    pub beside: u8,
+    pub length: usize,
+}
+
+impl LengthField {
+    // The widest length that 12 bits hold, and the widest number that the four bits beside it hold.
+    pub const LONGEST: usize = 4095;
+
+    pub const WIDEST_BESIDE: usize = 15;
+
+    // The field that two bytes are.
+    pub fn of_bytes(hi: u8, lo: u8) -> LengthField
+        ensures { λ r. ⌜ r ≡ lengthField hi lo ⌝ }
+    {
+        LengthField {
+            beside: hi / 16,
+            length: crate::wide(hi % 16) * 256 + crate::wide(lo),
+        }
+    }
+
+    // The two bytes of the field, of whose numbers the lowest four and twelve bits are taken.
+    pub fn to_bytes(self) -> [u8; 2]
+        ensures { λ r. do ⌜ r ≡ lengthBytes (self .beside % (widestBeside + 1)) (self .length % (longest + 1)) ⌝ }
+    {
+        let length = self.length % (LengthField::LONGEST + 1);
+        let beside = crate::wide(self.beside) % (LengthField::WIDEST_BESIDE + 1);
+        [(beside * 16 + length / 256) as u8, (length % 256) as u8]
+    }
+}

@@ -1,0 +1,2 @@
+-- What a CRC is.
+pub mod Crc

@@ -1,0 +1,11 @@
+-- The laws of the locator, and that each public contract leaves one outcome.
+pub mod Answers
+pub mod Sizes
+pub mod Spelling
+pub mod Back
+pub mod Rebuild
+pub mod Exact
+pub mod Checked
+pub mod Written
+pub mod Rows
+pub mod Unique

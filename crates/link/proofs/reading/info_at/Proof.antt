@@ -1,0 +1,91 @@
+-- `info_at` meets its contract. Assumes nothing.
+use Prim.Native.Nat.{_+_}
+use mathlib.Core.Path.{_≡_, refl, sym, ap, _∙_}
+use native.Mathlib.Omega.{arith}
+use Rattle.wire.specs.declared.lengths.LengthField.{LengthField}
+use Rattle.link.specs.Records.{infoAt}
+use borrow.Author.Needs.{needs}
+use Rattle.link.proofs.reading.info_at.Statement.{statement}
+use Rattle.link.proofs.reading.info_at.Tie as tie
+
+shared-slice-read-fields-of : tie.Need-shared-slice-read-fields-of
+shared-slice-read-fields-of c = search needs
+
+shared-slice-read-fields-of-2 : tie.Need-shared-slice-read-fields-of-2
+shared-slice-read-fields-of-2 c = search needs
+
+shared-slice-read-fields-of-3 : tie.Need-shared-slice-read-fields-of-3
+shared-slice-read-fields-of-3 c = search needs
+
+shared-slice-read-fields-of-4 : tie.Need-shared-slice-read-fields-of-4
+shared-slice-read-fields-of-4 c = search needs
+
+fields-of-requires : tie.Need-fields-of-requires
+fields-of-requires c κs = search needs
+
+uri-range-requires : tie.Need-uri-range-requires
+uri-range-requires c κs = search needs
+
+shared-slice-read-wide : tie.Need-shared-slice-read-wide
+shared-slice-read-wide c = search needs
+
+wide-requires : tie.Need-wide-requires
+wide-requires c κs = search needs
+
+shared-slice-read-of-bytes : tie.Need-shared-slice-read-of-bytes
+shared-slice-read-of-bytes c = search needs
+
+add-of-bytes : tie.Need-add-of-bytes
+add-of-bytes c = search needs
+
+shared-slice-read-of-bytes-2 : tie.Need-shared-slice-read-of-bytes-2
+shared-slice-read-of-bytes-2 c = search needs
+
+of-bytes-requires : tie.Need-of-bytes-requires
+of-bytes-requires c κs = search needs
+
+add-t25 : tie.Need-add-t25
+add-t25 c = search needs
+
+add-t26 : tie.Need-add-t26
+add-t26 c = search needs
+
+cast-t27 : tie.Need-cast-t27
+cast-t27 c = search needs
+
+cast-t28 : tie.Need-cast-t28
+cast-t28 c = omega (arith, ap (λ (f : LengthField). f .length) (c .before .of-bytes .ensures), c .before .before .shared-slice-known8 .given (c .before .before .before .before .before .before .before .before .before .before .before .before .before .args .tail + 1))
+
+cast-t29 : tie.Need-cast-t29
+cast-t29 c = search needs
+
+cast-t31 : tie.Need-cast-t31
+cast-t31 c = search needs
+
+returns : tie.Need-returns
+unfolding infoAt
+returns c = rw (c .before .before .before .before .before .before .before .before .before .fields-of .ensures, c .before .before .before .of-bytes .ensures, c .before .before .before .before .before .before .before .before .uri-range .ensures, c .before .before .before .before .before .before .wide .ensures .0, c .before .before .before .before .before .before .before .before .before .before .before .before .before .before .before .pre .locator, c .before .before .before .before .before .before .before .before .before .before .before .before .before .before .before .pre .count, c .before .before .before .before .before .before .before .before .before .before .before .before .before .before .before .pre .tail, c .before .before .before .before .before .before .before .before .before .before .before .before .before .before .before .pre .items)
+
+pub info-at-spec : {M : Type 1} → statement M
+info-at-spec =
+    tie.close
+    (tie.spec
+    shared-slice-read-fields-of
+    shared-slice-read-fields-of-2
+    shared-slice-read-fields-of-3
+    shared-slice-read-fields-of-4
+    fields-of-requires
+    uri-range-requires
+    shared-slice-read-wide
+    wide-requires
+    shared-slice-read-of-bytes
+    add-of-bytes
+    shared-slice-read-of-bytes-2
+    of-bytes-requires
+    add-t25
+    add-t26
+    cast-t27
+    cast-t28
+    cast-t29
+    cast-t31
+    returns)

@@ -1,0 +1,27 @@
+-- The parts of a body that are handed back, as spans of it: none where the body is refused, or has no such part.
+-- Assumes nothing.
+use Prim.Native.Nat.{ℕ, _+_}
+use mathlib.Core.List.{List}
+use lib.ListN.{getD}
+use Rattle.wire.specs.Choice.{pick}
+use Rattle.wire.specs.Lengths.{lengthAt}
+use Rattle.wire.specs.Verdict.{isFine}
+use Rattle.link.specs.Syntax.{uriDue}
+use Rattle.link.specs.Reading.{typeAt, countPlace, itemPlace, tailPlace, bodyVerdict}
+use Rattle.link.specs.Records.{itemRows}
+use Rattle.link.specs.declared.parts.Span.{Span}
+
+abbrev pub span : ℕ → ℕ → Span
+span p n = record { start = p; length = n }
+
+unfoldable pub uriSpan : List ℕ → Span
+uriSpan xs = pick (isFine (bodyVerdict xs)) (pick (uriDue (typeAt xs)) (span 5 (getD xs 4 0)) (span 0 0)) (span 0 0)
+
+abbrev pub textAt : List ℕ → ℕ → Span
+textAt xs p = span (p + 4) (getD xs (p + 3) 0)
+
+unfoldable pub textSpan : List ℕ → ℕ → Span
+textSpan xs i = pick (isFine (itemRows xs i)) (textAt xs (itemPlace i xs (countPlace xs + 1))) (span 0 0)
+
+unfoldable pub descriptorSpan : List ℕ → Span
+descriptorSpan xs = pick (isFine (bodyVerdict xs)) (span (tailPlace xs + 2) (lengthAt xs (tailPlace xs))) (span 0 0)

@@ -1,0 +1,136 @@
+-- The reading of a link's body, a slice of its own: its verdict, row by row in reading order, and the link that it stands
+-- for. Places are counted from the body's first byte; each is a total function of the bytes, and means something where
+-- the rows before it are passed.
+-- Assumes nothing.
+use Prim.Native.Nat.{ℕ, zero, suc, _+_, _-_, _*_, _/_, _%_}
+use mathlib.Core.Bool.{Bool, true, false}
+use mathlib.Core.List.{List, [], _∷_}
+use mathlib.Core.Option.{Option, none, some}
+use lib.Dec.{eqb, ltb}
+use lib.ListN.{length, getD, drop}
+use Rattle.wire.specs.Choice.{pick}
+use Rattle.wire.specs.Lists.{part}
+use Rattle.wire.specs.Lengths.{lengthAt, besideAt, blockEnd, lastVerdict}
+use Rattle.wire.specs.Verdict.{refuse, _▷_}
+use Rattle.wire.specs.declared.verdict.Verdict.{Verdict}
+use Rattle.wire.specs.declared.verdict.Verdict.the-variants.{Fine, Refused}
+use Rattle.locator.specs.Reading.{readLocator}
+use Rattle.locator.specs.declared.DvbBinaryLocator.{DvbBinaryLocator}
+use Rattle.locator.specs.declared.reading.LocatorRead.{LocatorRead}
+use Rattle.locator.specs.declared.reading.LocatorRead.the-variants as read
+use Rattle.link.specs.Syntax.{Item, Link, uriDue, locatorDue}
+
+-- ---- the places
+
+abbrev pub typeAt : List ℕ → ℕ
+typeAt xs = getD xs 0 0 / 16
+
+-- behind the URI, if there is one: a length byte, and as many bytes
+abbrev pub uriEnd : List ℕ → ℕ
+uriEnd xs = pick (uriDue (typeAt xs)) (5 + getD xs 4 0) 4
+
+-- what a reading of a locator says: its verdict, the locator, the bytes used
+abbrev pub locatorSaid : LocatorRead → Verdict
+locatorSaid (read.Got l n) = Fine
+locatorSaid (read.Refused r) = Refused r
+
+abbrev pub locatorGot : LocatorRead → Option DvbBinaryLocator
+locatorGot (read.Got l n) = some l
+locatorGot (read.Refused r) = none
+
+abbrev pub locatorUsed : LocatorRead → ℕ
+locatorUsed (read.Got l n) = n
+locatorUsed (read.Refused r) = 0
+
+-- what is left of the link behind the URI is what a locator is read from: it is bounded by its link
+abbrev pub locatorIn : List ℕ → LocatorRead
+locatorIn xs = readLocator (drop (uriEnd xs) xs)
+
+-- behind the locator, if there is one: the byte with the number of items
+abbrev pub countPlace : List ℕ → ℕ
+countPlace xs = pick (locatorDue (typeAt xs)) (uriEnd xs + locatorUsed (locatorIn xs)) (uriEnd xs)
+
+abbrev pub itemCount : List ℕ → ℕ
+itemCount xs = getD xs (countPlace xs) 0 % 64
+
+-- behind an item at p: three language bytes, a length byte, and as many bytes
+abbrev pub itemEnd : List ℕ → ℕ → ℕ
+itemEnd xs p = p + 4 + getD xs (p + 3) 0
+
+-- the place of item n, or behind n items, the first of which is at p
+abbrev pub itemPlace : ℕ → List ℕ → ℕ → ℕ
+itemPlace zero xs p = p
+itemPlace (suc n) xs p = itemPlace n xs (itemEnd xs p)
+
+-- behind the items: default icon flag, icon and the descriptors
+abbrev pub tailPlace : List ℕ → ℕ
+tailPlace xs = itemPlace (itemCount xs) xs (countPlace xs + 1)
+
+-- ---- the verdict: document 01's 6 to 16
+
+unfoldable pub uriVerdict : List ℕ → Verdict
+uriVerdict xs =
+    pick (uriDue (typeAt xs))
+    (refuse (ltb (length xs) 5) 7 5 (length xs) ▷ refuse (ltb (length xs) (5 + getD xs 4 0)) 8 (5 + getD xs 4 0) (length xs))
+    Fine
+
+unfoldable pub placeVerdict : List ℕ → Verdict
+placeVerdict xs =
+    pick (locatorDue (typeAt xs))
+    (refuse (ltb (length xs) (uriEnd xs + 1)) 9 (uriEnd xs + 1) (length xs) ▷ locatorSaid (locatorIn xs))
+    Fine
+
+unfoldable pub countVerdict : List ℕ → Verdict
+countVerdict xs = refuse (ltb (length xs) (countPlace xs + 1)) 11 (countPlace xs + 1) (length xs)
+
+unfoldable pub itemVerdict : List ℕ → ℕ → Verdict
+itemVerdict xs p =
+    refuse (ltb (length xs) (p + 4)) 12 (p + 4) (length xs) ▷ refuse (ltb (length xs) (itemEnd xs p)) 13 (itemEnd xs p) (length xs)
+
+unfoldable pub itemsVerdict : ℕ → List ℕ → ℕ → Verdict
+itemsVerdict zero xs p = Fine
+itemsVerdict (suc n) xs p = itemVerdict xs p ▷ itemsVerdict n xs (itemEnd xs p)
+
+-- what stands before the items
+unfoldable pub frontVerdict : List ℕ → Verdict
+frontVerdict xs = refuse (ltb (length xs) 4) 6 4 (length xs) ▷ uriVerdict xs ▷ placeVerdict xs ▷ countVerdict xs
+
+-- the items, and what the body ends with
+unfoldable pub restVerdict : List ℕ → Verdict
+restVerdict xs = itemsVerdict (itemCount xs) xs (countPlace xs + 1) ▷ lastVerdict 14 15 16 xs (length xs) (tailPlace xs)
+
+unfoldable pub bodyVerdict : List ℕ → Verdict
+bodyVerdict xs = frontVerdict xs ▷ restVerdict xs
+
+-- ---- the link that a body stands for
+
+abbrev pub itemAt : List ℕ → ℕ → Item
+itemAt xs p =
+    record {
+      language = record { first = getD xs p 0; second = getD xs (p + 1) 0; third = getD xs (p + 2) 0 };
+      text = part xs (p + 4) (getD xs (p + 3) 0);
+    }
+
+unfoldable pub itemsAt : ℕ → List ℕ → ℕ → List Item
+itemsAt zero xs p = []
+itemsAt (suc n) xs p = itemAt xs p ∷ itemsAt n xs (itemEnd xs p)
+
+-- the link of an entry whose four bits are r and whose body is xs
+unfoldable pub linkAt : ℕ → List ℕ → Link
+linkAt r xs =
+    record {
+      lengthReserved = r;
+      linkType = typeAt xs;
+      typeReserved = getD xs 0 0 / 4 % 4;
+      howRelated = getD xs 0 0 % 4 * 16 + getD xs 1 0 / 16;
+      termId = getD xs 1 0 % 16 * 256 + getD xs 2 0;
+      groupId = getD xs 3 0 / 16;
+      precedence = getD xs 3 0 % 16;
+      uri = pick (uriDue (typeAt xs)) (some (part xs 5 (getD xs 4 0))) none;
+      locator = pick (locatorDue (typeAt xs)) (locatorGot (locatorIn xs)) none;
+      itemsReserved = getD xs (countPlace xs) 0 / 64;
+      items = itemsAt (itemCount xs) xs (countPlace xs + 1);
+      defaultIcon = eqb (besideAt xs (tailPlace xs) / 8) 1;
+      iconId = besideAt xs (tailPlace xs) % 8;
+      descriptors = part xs (tailPlace xs + 2) (lengthAt xs (tailPlace xs));
+    }

@@ -1,0 +1,117 @@
+// A link of the related content section (ETSI TS 102 323, 10.4.3, Table 110): its record, and the reading of its body.
+ghost use mathlib.Core.Path.{_≡_};
+ghost use Rattle.link.specs.Records.{noItem, noLink, newLink};
+use locator::DvbBinaryLocator;
+use wire::field::Field;
+
+pub mod parts;
+pub mod reading;
+
+// Bytes of one lent text: where they start, and how many there are.
+pub struct Range {
+    pub start: u32,
+    pub length: u32,
+}
+
+// The three bytes of an ISO 639-2 language code.
+pub struct LangCode {
+    pub first: u8,
+    pub second: u8,
+    pub third: u8,
+}
+
+pub struct LinkItem {
+    pub language_code: LangCode,
+    pub promotional_text: Range,
+}
+
+pub enum MediaUri {
+    Absent,
+    Present(Range),
+}
+
+pub enum LinkLocator {
+    Absent,
+    Present(DvbBinaryLocator),
+}
+
+// The record of a link: `number_items` of the items count, the others mean nothing.
+pub struct LinkInfo {
+    pub reserved_link_info_length: u16,
+    pub link_type: u16,
+    pub reserved_link_type: u16,
+    pub how_related: u16,
+    pub term_id: u16,
+    pub group_id: u16,
+    pub precedence: u16,
+    pub media_uri: MediaUri,
+    pub dvb_binary_locator: LinkLocator,
+    pub reserved_number_items: u16,
+    pub number_items: usize,
+    pub items: [LinkItem; 63],
+    pub default_icon_flag: bool,
+    pub icon_id: u16,
+    pub descriptors: Range,
+}
+
+impl LinkItem {
+    // An empty text in no language: what stands past the number of items.
+    pub fn none() -> LinkItem
+        ensures { λ r. ⌜ r ≡ noItem ⌝ }
+    {
+        LinkItem {
+            language_code: LangCode {
+                first: 0,
+                second: 0,
+                third: 0,
+            },
+            promotional_text: Range {
+                start: 0,
+                length: 0,
+            },
+        }
+    }
+}
+
+impl LinkInfo {
+    // How many items a record holds.
+    pub const MOST_ITEMS: usize = Field::NUMBER_ITEMS.widest;
+
+    // The record of nothing: all numbers 0, neither URI nor locator, no items. It stands beside a refusal.
+    pub fn none() -> LinkInfo
+        ensures { λ r. ⌜ r ≡ noLink ⌝ }
+    {
+        let none = LinkItem::none();
+        let items = [none; 63];
+        LinkInfo {
+            reserved_link_info_length: 0,
+            link_type: 0,
+            reserved_link_type: 0,
+            how_related: 0,
+            term_id: 0,
+            group_id: 0,
+            precedence: 0,
+            media_uri: MediaUri::Absent,
+            dvb_binary_locator: LinkLocator::Absent,
+            reserved_number_items: 0,
+            number_items: 0,
+            items,
+            default_icon_flag: false,
+            icon_id: 0,
+            descriptors: Range {
+                start: 0,
+                length: 0,
+            },
+        }
+    }
+
+    // The record with its reserved bits set to ones, as the standard has them.
+    pub fn with_reserved_ones(mut self) -> LinkInfo
+        ensures { λ r. ⌜ r ≡ newLink self ⌝ }
+    {
+        self.reserved_link_info_length = Field::LINK_LENGTH_RESERVED.widest as u16;
+        self.reserved_link_type = Field::LINK_TYPE_RESERVED.widest as u16;
+        self.reserved_number_items = Field::NUMBER_ITEMS_RESERVED.widest as u16;
+        self
+    }
+}

@@ -1,0 +1,24 @@
+-- Each public function's own contract takes every input and leaves one outcome.
+-- Assumes nothing.
+use mathlib.Core.Path.{refl}
+use Rattle.wire.proofs.One.{One, both}
+use Rattle.frame.proofs.Table.least.Kinds as least-kinds
+use Rattle.frame.proofs.Table.least.Reads as least-reads
+use Rattle.frame.proofs.total.Kinds as total-kinds
+use Rattle.frame.proofs.total.Reads as total-reads
+use Rattle.frame.proofs.payload_end.Kinds as payload-end-kinds
+use Rattle.frame.proofs.payload_end.Reads as payload-end-reads
+use Rattle.frame.proofs.open.Kinds as open-kinds
+use Rattle.frame.proofs.open.Reads as open-reads
+
+pub least-one : One least-kinds.ps least-kinds.r least-reads.Asked least-reads.Learnt
+least-one = record { total = λ κs a. tt; one = λ κs a x y v w p q. (both (p .0) (q .0), refl) }
+
+pub total-one : One total-kinds.ps total-kinds.r total-reads.Asked total-reads.Learnt
+total-one = record { total = λ κs a. tt; one = λ κs a x y v w p q. (both (p .0) (q .0), refl) }
+
+pub payload-end-one : One payload-end-kinds.ps payload-end-kinds.r payload-end-reads.Asked payload-end-reads.Learnt
+payload-end-one = record { total = λ κs a. tt; one = λ κs a x y v w p q. (both p q, refl) }
+
+pub open-one : One open-kinds.ps open-kinds.r open-reads.Asked open-reads.Learnt
+open-one = record { total = λ κs a. tt; one = λ κs a x y v w p q. (both p q, refl) }

@@ -1,0 +1,2 @@
+-- What the sections of every table share.
+pub mod Frame

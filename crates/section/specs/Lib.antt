@@ -1,0 +1,3 @@
+-- The related content section: what its bytes are, and how bytes are read.
+pub mod Syntax
+pub mod Reading

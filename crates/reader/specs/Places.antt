@@ -1,0 +1,34 @@
+-- Where a reading finds the links and the descriptor loop.
+-- Assumes nothing.
+use Prim.Native.Nat.{ℕ}
+use mathlib.Core.List.{List}
+use lib.Dec.{ltb}
+use Rattle.wire.specs.Choice.{pick}
+use Rattle.wire.specs.Lengths.{blockVerdict}
+use Rattle.wire.specs.Verdict.{_▷_}
+use Rattle.wire.specs.declared.verdict.Verdict.{Verdict}
+use Rattle.wire.specs.declared.verdict.Verdict.the-variants.{Fine, Refused}
+use Rattle.link.specs.Reading.{bodyVerdict}
+use Rattle.section.specs.Reading.{bodyIn, countAt, linkPlace}
+use Rattle.reader.specs.declared.Located.{Located}
+use Rattle.reader.specs.declared.Located.the-variants as spot
+use Rattle.reader.specs.declared.places.Step.{Step}
+use Rattle.reader.specs.declared.places.Step.the-variants as step
+
+-- one entry at p of a payload that ends at e: its length field, its length, its body
+unfoldable pub entryVerdict : List ℕ → ℕ → ℕ → Verdict
+entryVerdict xs e p = blockVerdict 4 5 xs e p ▷ bodyVerdict (bodyIn xs p)
+
+-- the place that a step reaches, or the refusal
+unfoldable pub stepTo : Verdict → ℕ → Step
+stepTo Fine p = step.At p
+stepTo (Refused r) p = step.Stop r
+
+-- the place of link k, and 0 where there is no such link
+abbrev pub linkSpot : List ℕ → ℕ → ℕ
+linkSpot xs k = pick (ltb k (countAt xs)) (linkPlace xs k) 0
+
+-- the places of a link and of the loop, or the refusal
+unfoldable pub located : Verdict → ℕ → ℕ → Located
+located Fine k l = spot.At k l
+located (Refused r) k l = spot.Refused r

@@ -1,0 +1,10 @@
+-- Laws of making, appending and replacing, over the calls' own definitions.
+pub mod Outcomes
+pub mod Sizes
+pub mod Stores
+pub mod Made
+pub mod Between
+pub mod Again
+pub mod Never
+pub mod Demands
+pub mod Unique

@@ -1,0 +1,4 @@
+-- Making, appending and replacing as the code's calls: of the records that they are handed.
+pub mod Editing
+pub mod Making
+pub mod Again

@@ -1,0 +1,2 @@
+-- What an item reader's steps are.
+pub mod Steps

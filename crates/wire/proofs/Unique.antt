@@ -22,6 +22,8 @@ use Rattle.wire.proofs.field.Field.at.Kinds as at-kinds
 use Rattle.wire.proofs.field.Field.at.Reads as at-reads
 use Rattle.wire.proofs.field.Field.check.Kinds as check-kinds
 use Rattle.wire.proofs.field.Field.check.Reads as check-reads
+use Rattle.wire.proofs.field.Field.low.Kinds as low-kinds
+use Rattle.wire.proofs.field.Field.low.Reads as low-reads
 use Rattle.wire.proofs.lengths.LengthField.of_bytes.Kinds as of-bytes-kinds
 use Rattle.wire.proofs.lengths.LengthField.of_bytes.Reads as of-bytes-reads
 use Rattle.wire.proofs.lengths.LengthField.to_bytes.Kinds as to-bytes-kinds
@@ -53,6 +55,9 @@ at-one = record { total = λ κs a. tt; one = λ κs a x y v w p q. (both p q, r
 
 pub check-one : One check-kinds.ps check-kinds.r check-reads.Asked check-reads.Learnt
 check-one = record { total = λ κs a. tt; one = λ κs a x y v w p q. (both p q, refl) }
+
+pub low-one : One low-kinds.ps low-kinds.r low-reads.Asked low-reads.Learnt
+low-one = record { total = λ κs a. tt; one = λ κs a x y v w p q. (both p q, refl) }
 
 pub of-bytes-one : One of-bytes-kinds.ps of-bytes-kinds.r of-bytes-reads.Asked of-bytes-reads.Learnt
 of-bytes-one = record { total = λ κs a. tt; one = λ κs a x y v w p q. (both p q, refl) }

@@ -1,7 +1,7 @@
 -- Document 01's list of fields: each with its place there and its widest number. The widths are those of ETSI TS 102 323,
 -- Tables 31, 109 and 110: a field of n bits holds at most 2^n - 1.
 -- Assumes nothing.
-use Prim.Native.Nat.{ℕ, _-_}
+use Prim.Native.Nat.{ℕ, _+_, _-_, _%_}
 use mathlib.Core.List.{List, [], _∷_}
 use lib.Dec.{eqb, ltb, leb}
 use lib.ListN.{length, getD}
@@ -148,3 +148,7 @@ listedAt p = pick (eqb p 0) Nothing (pick (leb (length fields) (p - 1)) Nothing 
 -- fine, or 22 with the field's place and the number that is too wide for it
 unfoldable pub checkField : Field → ℕ → Verdict
 checkField f n = refuse (ltb (f .widest) n) 22 (f .place) n
+
+-- the lowest bits of a number, as many as the field has
+abbrev pub low : Field → ℕ → ℕ
+low f n = n % (f .widest + 1)

@@ -1,7 +1,7 @@
 // The fields of document 01's list: what each is, its place there, and its widest number, stated once for readers and
 // writers of every layer.
 ghost use mathlib.Core.Path.{_≡_};
-ghost use Rattle.wire.specs.Fields.{listedAt, checkField};
+ghost use Rattle.wire.specs.Fields.{listedAt, checkField, low};
 use crate::lengths::LengthField;
 use crate::verdict::Refusal;
 use crate::verdict::Verdict;
@@ -195,5 +195,16 @@ impl Field {
             });
         }
         Verdict::Fine
+    }
+
+    // The lowest bits of a number, as many as the field has: what a reader takes of the bits that a field ends.
+    pub fn low(self, number: u16) -> u16
+        ensures { λ r. ⌜ r ≡ low self number ⌝ }
+    {
+        let n = number as usize;
+        if n <= self.widest {
+            return number;
+        }
+        (n % (self.widest + 1)) as u16
     }
 }

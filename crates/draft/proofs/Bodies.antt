@@ -7,7 +7,7 @@ use mathlib.Core.List.{List, [], _∷_, map}
 use native.Mathlib.Omega.{arith}
 use lib.ListN.{length, length-map, length-take}
 use borrow.Author.Tests.{le-leb, lt-leb}
-use Rattle.wire.specs.Fields.{numberItems}
+use Rattle.field.specs.Fields.{numberItems}
 use Rattle.wire.specs.Lengths.{blockBytes}
 use Rattle.wire.specs.Stores.{Wrote}
 use Rattle.wire.specs.declared.verdict.Refusal.{Refusal}

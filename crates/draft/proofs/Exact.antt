@@ -7,7 +7,7 @@ use mathlib.Core.List.{List, [], _∷_, map}
 use mathlib.Core.Logic.{_↔_}
 use native.Mathlib.Omega.{arith}
 use lib.ListN.{length, length-map, length-take}
-use Rattle.wire.specs.Fields.{howRelated, termId, linkType, linkTypeReserved, groupId, precedence, uriLength, numberItems, numberItemsReserved, textLength, descriptorLength, iconId, linkLengthReserved}
+use Rattle.field.specs.Fields.{howRelated, termId, linkType, linkTypeReserved, groupId, precedence, uriLength, numberItems, numberItemsReserved, textLength, descriptorLength, iconId, linkLengthReserved}
 use Rattle.wire.specs.Lists.{Bytes}
 use Rattle.wire.specs.Verdict.{bad, refuse, _▷_}
 use Rattle.wire.specs.declared.verdict.Verdict.the-variants.{Fine}

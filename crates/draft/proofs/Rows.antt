@@ -6,9 +6,9 @@ use mathlib.Core.Path.{_≡_, refl, sym}
 use mathlib.Core.Bool.{Bool, true, false, xor}
 use mathlib.Core.List.{List, [], _∷_}
 use lib.ListN.{length, take}
-use Rattle.wire.specs.Fields.{checkField}
+use Rattle.field.specs.Fields.{checkField}
 use Rattle.wire.specs.Verdict.{refuse}
-use Rattle.wire.specs.declared.field.Field.{Field}
+use Rattle.field.specs.declared.Field.{Field}
 use Rattle.wire.specs.declared.verdict.Verdict.{Verdict}
 use Rattle.wire.specs.declared.verdict.Verdict.the-variants.{Fine}
 use Rattle.wire.proofs.Verdicts.{then-fine, fine-then, row-fine, fine-row, passed-ltb, pass-ltb}

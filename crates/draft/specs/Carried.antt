@@ -5,7 +5,7 @@ use Prim.Native.Nat.{ℕ, _+_, _≤_, _<_}
 use mathlib.Core.Path.{_≡_}
 use mathlib.Core.List.{List, [], _∷_}
 use lib.ListN.{length, take}
-use Rattle.wire.specs.Fields.{howRelated, termId, linkType, linkTypeReserved, groupId, precedence, numberItems, descriptorLength, iconId, linkLengthReserved}
+use Rattle.field.specs.Fields.{howRelated, termId, linkType, linkTypeReserved, groupId, precedence, numberItems, descriptorLength, iconId, linkLengthReserved}
 use Rattle.locator.specs.Syntax as locator
 use Rattle.link.specs.Records.{itemsOf}
 use Rattle.link.specs.declared.Range.{Range}

@@ -6,7 +6,7 @@ use mathlib.Core.Bool.{Bool, true, false, xor}
 use mathlib.Core.List.{List, [], _∷_}
 use lib.Dec.{ltb}
 use lib.ListN.{length}
-use Rattle.wire.specs.Fields.{howRelated, termId, linkType, linkTypeReserved, groupId, precedence, uriLength, numberItems, numberItemsReserved, textLength, descriptorLength, iconId, linkLengthReserved, checkField}
+use Rattle.field.specs.Fields.{howRelated, termId, linkType, linkTypeReserved, groupId, precedence, uriLength, numberItems, numberItemsReserved, textLength, descriptorLength, iconId, linkLengthReserved, checkField}
 use Rattle.wire.specs.Verdict.{refuse, _▷_}
 use Rattle.wire.specs.declared.verdict.Verdict.{Verdict}
 use Rattle.wire.specs.declared.verdict.Verdict.the-variants.{Fine}

@@ -7,4 +7,7 @@ pub mod Never
 pub mod Rebuilt
 pub mod Locality
 pub mod Assembled
+pub mod Outcomes
+pub mod Stores
+pub mod Narrow
 pub mod Unique

@@ -1,6 +1,15 @@
-// Making, appending and replacing in a lent buffer: the numbers that the calls share.
+// Making, appending and replacing in a lent buffer: what the calls answer, and the numbers that they share.
 ghost use mathlib.Core.Path.{_≡_};
 ghost use Rattle.edit.specs.Edit.{mostLinks, filler};
+use wire::verdict::Verdict;
+
+pub mod steps;
+
+// What such a call answers: fine and the total of the new section, or the refusal and 0.
+pub struct Edited {
+    pub verdict: Verdict,
+    pub total: usize,
+}
 
 // The most links that the count's byte can tell.
 const MOST_LINKS: usize = 255;

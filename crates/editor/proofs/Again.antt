@@ -9,7 +9,7 @@ use lib.ListN.{length, getD, take, replicate}
 use lib.Seq.{take-at}
 use Rattle.wire.specs.Choice.{pick}
 use Rattle.wire.specs.Lists.{Bytes, part}
-use Rattle.wire.specs.Fields.{sectionReserved, versionNumber, versionReserved, loopLength, loopLengthReserved}
+use Rattle.field.specs.Fields.{sectionReserved, versionNumber, versionReserved, loopLength, loopLengthReserved}
 use Rattle.wire.specs.Lengths.{lengthAt, besideAt, blockEnd, blockVerdict}
 use Rattle.wire.specs.declared.verdict.Verdict.the-variants.{Fine}
 use Rattle.wire.proofs.Blocks.{length-short, beside-narrow, block-passed}
@@ -35,7 +35,7 @@ use Rattle.section.proofs.Accepted.{Accepted, accepted, accepted-fits}
 use Rattle.edit.specs.Edit.{bare, Outcome, made, appended}
 use Rattle.edit.proofs.Rebuilt.{appends, NoneRefused}
 use Rattle.editor.specs.Editing.{appending}
-use Rattle.editor.specs.Making.{checkHeader, checkLoop, checkMaking, making}
+use Rattle.edit.specs.Making.{checkHeader, checkLoop, checkMaking, making}
 use Rattle.editor.specs.Again.{infoIn, infosIn, loopRange, madeAgain, appendAll, AllAccepted}
 
 -- ---- the ranges of a record that was read lie in the text that its body is of

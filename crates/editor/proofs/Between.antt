@@ -27,16 +27,17 @@ use Rattle.frame.proofs.Opening.{Opened, opened-fine}
 use Rattle.section.specs.Syntax.{limit, rct, Section, sectionLength, fullLength}
 use Rattle.section.specs.Reading.{countAt, linkPlace, loopPlace, sectionAt, reading, checked}
 use Rattle.section.proofs.Checked.{count-is}
-use Rattle.reader.specs.Places.{linkSpot, located}
-use Rattle.reader.specs.declared.Located.the-variants as spot
+use Rattle.reader.specs.Places.{linkSpot, linkEndSpot}
+use Rattle.reader.proofs.Entries.{Places}
 use Rattle.edit.specs.Edit.{mostLinks, filler, put, grown, written, numberRow, countRow, roomVerdict, editVerdict, replaceVerdict, appendVerdict, Outcome, done, replaced, appended}
-use Rattle.edit.specs.Steps.{rehead}
+use Rattle.edit.specs.Answers.{refusedWith, outcome}
+use Rattle.edit.specs.Steps.{rehead, roomRows, sealedAt}
 use Rattle.edit.proofs.Assembled.{Steps, new-end, assembled}
 use Rattle.edit.proofs.Locality.{Splice, append-splice, replace-splice}
 use Rattle.edit.proofs.Records.{length-put, length-grown}
-use Rattle.editor.specs.declared.Edited.{Edited}
-use Rattle.editor.specs.Editing.{refusedWith, replacing, appending, roomRows, sealedAt, filledUp, entryBytes, Spot, lengthBetween, spliced, finished, outcome, betweenVerdict, betweenBytes, between}
-use Rattle.editor.proofs.Outcomes.{Came, outcome-stops, done-outcome}
+use Rattle.edit.specs.declared.Edited.{Edited}
+use Rattle.edit.proofs.Outcomes.{Came, outcome-stops, done-outcome}
+use Rattle.editor.specs.Editing.{replacing, appending, filledUp, entryBytes, Spot, lengthBetween, spliced, finished, betweenVerdict, betweenBytes, between}
 use Rattle.editor.proofs.Sizes.{body-size, entry-size}
 
 module _ (xs : List ℕ) (o : Opened rct limit xs) (t : List ℕ) (k : LinkInfo) (s : Section) (p q count : ℕ) (sp : Splice xs s (linkOf t k) p q) (n : length (s .links) ≡ count) where
@@ -129,27 +130,6 @@ module _ (xs : List ℕ) (o : Opened rct limit xs) (t : List ℕ) (k : LinkInfo)
 
 -- ---- what the checked reading found
 
-pub record Places (xs : List ℕ) (number a b : ℕ) : Type 0 where
-  pub fine : checked xs ≡ Fine
-  pub link-at : a ≡ linkSpot xs number
-  pub loop-at : b ≡ loopPlace xs
-
-pub found : (xs : List ℕ) (number a b : ℕ) → located (checked xs) (linkSpot xs number) (loopPlace xs) ≡ spot.At a b → Places xs number a b
-unfolding located
-found xs number a b e = by (checked xs) refl e
-  where
-    by : (v : Verdict) → checked xs ≡ v → located v (linkSpot xs number) (loopPlace xs) ≡ spot.At a b → Places xs number a b
-    by Fine c f = record { fine = c; link-at = cc; loop-at = cc }
-    by (Refused r) c f = let z : _≡_ {A = ℕ} 0 1 = cc in absurd (omega arith)
-
-pub not-found : (xs : List ℕ) (number : ℕ) (r : Refusal) → located (checked xs) (linkSpot xs number) (loopPlace xs) ≡ spot.Refused r → checked xs ≡ Refused r
-unfolding located
-not-found xs number r e = by (checked xs) refl e
-  where
-    by : (v : Verdict) → checked xs ≡ v → located v (linkSpot xs number) (loopPlace xs) ≡ spot.Refused r → checked xs ≡ Refused r
-    by Fine c f = let z : _≡_ {A = ℕ} 0 1 = cc in absurd (omega arith)
-    by (Refused q) c f = c ∙ cc
-
 read-fine : (xs : List ℕ) → checked xs ≡ Fine → reading limit xs ≡ Fine
 unfolding checked
 read-fine xs e = then-fine (reading limit xs) _ e .0
@@ -176,9 +156,9 @@ module _ (xs : List ℕ) (t : List ℕ) (k : LinkInfo) where
         (outcome-stops _ _ _ xs _ e (go-on (checked xs) _ c ∙ stop (countRow xs) _ _ _ _ (refused-row _ _ _ _ (le-leb mostLinks (countAt xs) h))) a)
 
   -- the loop stands at q
-  module _ (p q : ℕ) (f : Places xs 0 p q) (b : Bytes xs) where
+  module _ (p e q : ℕ) (f : Places (checked xs) (linkSpot xs 0) (linkEndSpot xs 0) (loopPlace xs) p e q) (b : Bytes xs) where
     behind : Splice xs (grown (sectionAt xs) (linkOf t k)) (linkOf t k) q q
-    behind = rw (f .loop-at) (append-splice limit xs b (read-fine xs (f .fine)) (omega arith) (linkOf t k))
+    behind = rw (← f .loop-at) (append-splice limit xs b (read-fine xs (f .fine)) (omega arith) (linkOf t k))
 
     pub append-spot : Spot xs q q
     append-spot = splice-spot xs _ (linkOf t k) _ _ (frame-fine xs (f .fine)) behind
@@ -207,21 +187,24 @@ module _ (xs : List ℕ) (number : ℕ) (t : List ℕ) (k : LinkInfo) where
         rw (done-outcome (replaceVerdict xs number (checkLink t k) (linkOf t k)) (put (sectionAt xs) number (linkOf t k)) (written xs (put (sectionAt xs) number (linkOf t k))) xs)
         (outcome-stops _ _ _ xs _ e (go-on (checked xs) _ c ∙ stop (numberRow xs number) _ _ _ _ (refused-row _ _ _ _ (le-leb (countAt xs) number h))) a)
 
-  -- there is such a link, and the entry stands at p
-  module _ (p q : ℕ) (f : Places xs number p q) (b : Bytes xs) (h : number < countAt xs) where
-    at : p ≡ linkPlace xs number
-    at = f .link-at ∙ rw (lt-ltb number (countAt xs) h)
+  -- there is such a link, and its entry stands from p to q
+  module _ (p q l : ℕ) (f : Places (checked xs) (linkSpot xs number) (linkEndSpot xs number) (loopPlace xs) p q l) (b : Bytes xs) (h : number < countAt xs) where
+    at : linkPlace xs number ≡ p
+    at = rw (lt-ltb number (countAt xs) h) at (f .link-at)
 
-    inside : Splice xs (put (sectionAt xs) number (linkOf t k)) (linkOf t k) p (blockEnd xs p)
-    inside = rw at (replace-splice limit xs b (read-fine xs (f .fine)) (omega arith) number (linkOf t k) h)
+    end : blockEnd xs (linkPlace xs number) ≡ q
+    end = rw (lt-ltb number (countAt xs) h) at (f .link-end)
 
-    pub replace-spot : Spot xs p (blockEnd xs p)
+    inside : Splice xs (put (sectionAt xs) number (linkOf t k)) (linkOf t k) p q
+    inside = rw (← at, ← end) (replace-splice limit xs b (read-fine xs (f .fine)) (omega arith) number (linkOf t k) h)
+
+    pub replace-spot : Spot xs p q
     replace-spot = splice-spot xs _ (linkOf t k) _ _ (frame-fine xs (f .fine)) inside
 
-    pub replace-is : between xs p (blockEnd xs p) (countAt xs) t k ≡ replacing xs number t k
+    pub replace-is : between xs p q (countAt xs) t k ≡ replacing xs number t k
     unfolding replacing replaced replaceVerdict editVerdict
     replace-is =
-        between-is xs (frame-fine xs (f .fine)) t k (put (sectionAt xs) number (linkOf t k)) p (blockEnd xs p) (countAt xs)
+        between-is xs (frame-fine xs (f .fine)) t k (put (sectionAt xs) number (linkOf t k)) p q (countAt xs)
         inside (length-put (sectionAt xs) number (linkOf t k) ∙ count-is xs)
         ∙ ap (λ v. done v (put (sectionAt xs) number (linkOf t k)) (written xs (put (sectionAt xs) number (linkOf t k))) xs)
         (sym (go-on (checked xs) _ (f .fine) ∙ go-on (numberRow xs number) _ (fine-row _ _ _ _ (lt-leb (countAt xs) number h))))

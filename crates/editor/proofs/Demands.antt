@@ -35,9 +35,9 @@ use Rattle.edit.proofs.ReadsBack.{ReadsBack, made-back, replaced-back, replaced
 use Rattle.edit.proofs.Rebuilt.{Rebuilt, rebuilt}
 use Rattle.edit.proofs.TwoOrders.{Ends, two-orders}
 use Rattle.editor.specs.Editing.{replacing, appending}
-use Rattle.editor.specs.Making.{checkMaking, HeaderCarried, loopOf, making}
+use Rattle.edit.specs.Making.{checkMaking, HeaderCarried, loopOf, making}
 use Rattle.editor.specs.Again.{infosOf, madeAgain, appendAll, AllAccepted}
-use Rattle.editor.proofs.Made.{header-narrow, loop-narrow}
+use Rattle.edit.proofs.Narrow.{header-narrow, loop-narrow}
 use Rattle.editor.proofs.Again.{append-all, make-again}
 use Rattle.editor.proofs.Never.{body-never, link-never, making-never}
 

@@ -2,7 +2,6 @@
 pub mod Outcomes
 pub mod Sizes
 pub mod Stores
-pub mod Made
 pub mod Between
 pub mod Again
 pub mod Never

@@ -8,10 +8,10 @@ use native.Mathlib.Omega.{arith}
 use lib.Dec.{ltb}
 use lib.ListN.{length, getD, drop}
 use Rattle.wire.specs.Choice.{pick}
-use Rattle.wire.specs.Fields.{checkField}
+use Rattle.field.specs.Fields.{checkField}
 use Rattle.wire.specs.Lengths.{blockVerdict, lastVerdict}
 use Rattle.wire.specs.Verdict.{refuse, _▷_}
-use Rattle.wire.specs.declared.field.Field.{Field}
+use Rattle.field.specs.declared.Field.{Field}
 use Rattle.wire.specs.declared.verdict.Verdict.{Verdict}
 use Rattle.wire.specs.declared.verdict.Verdict.the-variants.{Fine, Refused}
 use Rattle.locator.specs.Reading.{locatorVerdict, locatorAt, sizeAt, answer, readLocator}
@@ -32,7 +32,7 @@ use Rattle.link.specs.declared.LinkLocator.the-variants as place
 use Rattle.draft.specs.Checks.{firstIn, checkPresence, checkHead, checkUri, checkPlace, checkItems, checkEnd, checkFields, checkRule, checkRange, checkUriRange, checkRanges, checkLink}
 use Rattle.frame.proofs.Never.{Never, never-fine, never-row, never-then}
 use Rattle.section.specs.declared.RctHeader.{RctHeader}
-use Rattle.editor.specs.Making.{checkHeader, checkLoop, checkMaking}
+use Rattle.edit.specs.Making.{checkHeader, checkLoop, checkMaking}
 
 -- ---- the reading of a link's body
 

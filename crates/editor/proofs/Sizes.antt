@@ -5,7 +5,7 @@ use mathlib.Core.Path.{_≡_}
 use mathlib.Core.List.{List, [], _∷_}
 use native.Mathlib.Omega.{arith}
 use lib.ListN.{length, length-take}
-use Rattle.wire.specs.Fields.{textLength, uriLength}
+use Rattle.field.specs.Fields.{textLength, uriLength}
 use Rattle.wire.specs.declared.verdict.Verdict.the-variants.{Fine}
 use Rattle.wire.proofs.Blocks.{block-length}
 use Rattle.wire.proofs.Verdicts.{then-fine}

@@ -5,20 +5,16 @@ use mathlib.Core.Path.{_≡_, refl, sym, ap, _∙_}
 use mathlib.Core.Bool.{Bool, true, false}
 use mathlib.Core.List.{List, [], _∷_, _++_}
 use native.Mathlib.Omega.{arith}
-use lib.ListN.{length, take, drop, getD, set, replicate, length-replicate, replicate-append-replicate}
+use lib.ListN.{length, take, drop, getD, set, replicate, length-set, length-replicate, replicate-append-replicate}
 use lib.Seq.{sets, length-sets}
 use borrow.Author.Tests.{le-leb}
 use Rattle.wire.specs.Choice.{pick}
 use Rattle.wire.specs.Lists.{part}
 use Rattle.wire.specs.Lengths.{longest, lengthBytes, besideAt, blockBytes}
-use Rattle.wire.specs.Numbers.{bytes32}
 use Rattle.wire.specs.Stores.{roomAt, putAt, Wrote}
 use Rattle.wire.specs.declared.verdict.Verdict.the-variants.{Fine}
-use Rattle.wire.proofs.Blocks.{length-lengthBytes}
 use Rattle.wire.proofs.Parts.{length-part}
-use Rattle.wire.proofs.Words.{length-bytes32}
 use Rattle.wire.proofs.Writing.{sets-append, sets-take, then, wrote-length}
-use Rattle.crc.specs.Crc.{crcOf}
 use Rattle.link.specs.Syntax.{linkBody}
 use Rattle.link.specs.Records.{linkOf}
 use Rattle.link.specs.declared.LinkInfo.{LinkInfo}
@@ -29,15 +25,10 @@ use Rattle.draft.proofs.Exact.{passed}
 use Rattle.draft.proofs.Putting.{copied}
 use Rattle.frame.specs.Frame.{uncounted, crcLength, totalOf, payloadEnd}
 use Rattle.edit.specs.Edit.{filler}
-use Rattle.edit.specs.Steps.{rehead}
-use Rattle.editor.specs.Editing.{sealedAt, filledUp, entryBytes, lengthBetween, spliced, finished, betweenBytes}
+use Rattle.edit.specs.Steps.{rehead, sealAt, sealEnd}
+use Rattle.edit.proofs.Stores.{sealed-room, field-whole, field-put}
+use Rattle.editor.specs.Editing.{filledUp, entryBytes, lengthBetween, spliced, finished, betweenBytes}
 use Rattle.editor.proofs.Sizes.{body-size, entry-size}
-
--- ---- the CRC
-
-pub sealed-is : (xs ys : List ℕ) (e crc : ℕ) (bs : List ℕ) → e + crcLength ≤ length xs → crc ≡ crcOf (take e xs) → bs ≡ bytes32 crc → ys ≡ putAt xs e bs → ys ≡ sealedAt xs e
-unfolding sealedAt
-sealed-is xs ys e crc bs h c b p = copied xs ys bs e crcLength p (ap length b ∙ length-bytes32 crc) h .bytes ∙ rw (b, c)
 
 -- ---- filler
 
@@ -88,19 +79,6 @@ moved xs zs cs ys p q n hp hq c y hz =
         let e : n ≡ 0 + length (part xs p n) = omega (arith, size) in
         ap (λ r. take n r) stored ∙ ap (λ m. take m (sets zs 0 (part xs p n))) e ∙ sets-take zs 0 (part xs p n) (omega (arith, size))
 
--- ---- a length field, of whose numbers no bit is cut off
-
-pub field-whole : (beside n : ℕ) → beside ≤ 15 → n ≤ longest → lengthBytes (beside % 16) (n % 4096) ≡ lengthBytes beside n
-field-whole beside n h l =
-    let a : beside % 16 ≡ beside = omega arith in
-    let b : n % 4096 ≡ n = omega arith in
-    rw (a, b)
-
-pub field-put : (xs ys bs : List ℕ) (at beside n : ℕ) → beside ≤ 15 → n ≤ longest → at + 2 ≤ length xs → bs ≡ lengthBytes (beside % 16) (n % 4096) → ys ≡ putAt xs at bs
-    → Wrote xs at (lengthBytes beside n) ys (at + 2)
-field-put xs ys bs at beside n h l r b p =
-    copied xs ys (lengthBytes beside n) at 2 (p ∙ ap (putAt xs at) (b ∙ field-whole beside n h l)) (length-lengthBytes beside n) r
-
 -- ---- a link's entry
 
 pub entry-put : (xs ys zs bs : List ℕ) (at n : ℕ) (t : List ℕ) (k : LinkInfo) → checkLink t k ≡ Fine → linkLength k ≤ longest → at + 2 + linkLength k ≤ length xs → n ≡ linkLength k
@@ -137,12 +115,19 @@ spliced-put xs y1 y2 y3 p q count t k to n len c e1 e2 e3 et en =
     e3
     ∙ ap (λ ys. rehead ys len count) (e2 ∙ ap (λ ys. sets ys p (entryBytes t k)) (e1 ∙ ap (λ m. sets xs m (part xs q n)) at ∙ ap (λ m. sets xs (p + length (entryBytes t k)) (part xs q m)) en))
 
--- ---- and then the CRC and the filler
+-- ---- and then the CRC, for which there is room, and the filler
 
-pub finished-put : (xs y1 y2 y3 : List ℕ) (p q count : ℕ) (t : List ℕ) (k : LinkInfo) (len e new total : ℕ)
-    → y1 ≡ spliced xs p q (entryBytes t k) len count → y2 ≡ sealedAt y1 e → y3 ≡ filledUp y2 new total
-    → len ≡ lengthBetween xs p q (linkLength k) → e ≡ uncounted + len - crcLength → new ≡ uncounted + len → total ≡ totalOf xs
-    → y3 ≡ betweenBytes xs p q count t k
+length-spliced : (xs : List ℕ) (p q : ℕ) (c : List ℕ) (len count : ℕ) → length (spliced xs p q c len count) ≡ length xs
+unfolding spliced rehead
+length-spliced xs p q c len count = simp (length-set, length-sets)
+
+pub finished-put : (xs y1 y2 y3 : List ℕ) (p q count : ℕ) (t : List ℕ) (k : LinkInfo) (len e new total : ℕ) → uncounted + len ≤ length xs
+    → y1 ≡ spliced xs p q (entryBytes t k) len count → y2 ≡ sealAt y1 e → y3 ≡ filledUp y2 new total
+    → len ≡ lengthBetween xs p q (linkLength k) → e ≡ uncounted + len - crcLength → new ≡ sealEnd y1 e → total ≡ totalOf xs
+    → (new ≡ uncounted + len) × (y3 ≡ betweenBytes xs p q count t k)
 unfolding betweenBytes finished
-finished-put xs y1 y2 y3 p q count t k len e new total e1 e2 e3 el ee en et =
-    e3 ∙ rw (en, et, e2, ee, e1, el)
+finished-put xs y1 y2 y3 p q count t k len e new total room e1 e2 e3 el ee en et =
+    let size : length y1 ≡ length xs = ap length e1 ∙ length-spliced xs p q (entryBytes t k) len count in
+    let s = sealed-room y1 e (omega (arith, size)) in
+    let n : new ≡ uncounted + len = omega (arith, s .0) in
+    (n, e3 ∙ rw (n, et, e2 ∙ s .1, ee, e1, el))

@@ -2,15 +2,10 @@
 -- Assumes nothing.
 use mathlib.Core.Path.{refl}
 use Rattle.wire.proofs.One.{One, both, pair}
-use Rattle.editor.proofs.making.make.Kinds as make-kinds
-use Rattle.editor.proofs.making.make.Reads as make-reads
 use Rattle.editor.proofs.editing.append.Kinds as append-kinds
 use Rattle.editor.proofs.editing.append.Reads as append-reads
 use Rattle.editor.proofs.editing.replace.Kinds as replace-kinds
 use Rattle.editor.proofs.editing.replace.Reads as replace-reads
-
-pub make-one : One make-kinds.ps make-kinds.r make-reads.Asked make-reads.Learnt
-make-one = record { total = λ κs a. tt; one = λ κs a x y v w p q. (both (p .0) (q .0), pair (both (p .1) (q .1)) refl) }
 
 pub append-one : One append-kinds.ps append-kinds.r append-reads.Asked append-reads.Learnt
 append-one = record { total = λ κs a. tt; one = λ κs a x y v w p q. (both (p .0) (q .0), pair (both (p .1) (q .1)) refl) }

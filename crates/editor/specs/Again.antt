@@ -12,7 +12,7 @@ use Rattle.section.specs.Syntax.{headLength}
 use Rattle.section.specs.Reading.{headerAt, countAt, bodyIn, loopPlace}
 use Rattle.edit.specs.Edit.{Outcome}
 use Rattle.editor.specs.Editing.{appending}
-use Rattle.editor.specs.Making.{making}
+use Rattle.edit.specs.Making.{making}
 
 -- the record of the entry at p, of n entries from p on, of all links
 abbrev pub infoIn : List ℕ → ℕ → LinkInfo

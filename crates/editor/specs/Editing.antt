@@ -1,18 +1,15 @@
--- Appending and replacing a link whose record, with a text, is handed in (document 01, 'Calls'): the outcomes of the records, with the verdict on the record's own checks; and what the calls answer.
+-- Appending and replacing a link whose record, with a text, is handed in (document 01, 'Calls'): the outcomes of the records, with the verdict on the record's own checks.
 -- Assumes nothing.
 use Prim.Native.Nat.{ℕ, _+_, _-_, _≤_}
 use mathlib.Core.Path.{_≡_}
 use mathlib.Core.List.{List}
-use lib.Dec.{ltb}
-use lib.ListN.{length, take, replicate}
+use lib.ListN.{length, replicate}
 use lib.Seq.{sets}
 use Rattle.wire.specs.Lists.{part}
 use Rattle.wire.specs.Lengths.{longest, blockBytes}
-use Rattle.wire.specs.Numbers.{bytes32}
-use Rattle.wire.specs.Verdict.{refuse, _▷_}
+use Rattle.wire.specs.Verdict.{_▷_}
 use Rattle.wire.specs.declared.verdict.Verdict.{Verdict}
-use Rattle.wire.specs.declared.verdict.Verdict.the-variants.{Fine, Refused}
-use Rattle.crc.specs.Crc.{crcOf}
+use Rattle.wire.specs.declared.verdict.Verdict.the-variants.{Fine}
 use Rattle.link.specs.Syntax.{entryOf}
 use Rattle.link.specs.Records.{linkOf}
 use Rattle.link.specs.declared.LinkInfo.{LinkInfo}
@@ -21,19 +18,8 @@ use Rattle.draft.specs.Lengths.{linkLength}
 use Rattle.frame.specs.Frame.{uncounted, crcLength, least, declared, totalOf, payloadEnd}
 use Rattle.section.specs.Syntax.{limit, rct, headLength}
 use Rattle.edit.specs.Edit.{filler, Outcome, replaced, appended}
-use Rattle.edit.specs.Steps.{rehead}
-use Rattle.editor.specs.declared.Edited.{Edited}
-
--- ---- what the calls answer
-
-abbrev pub answer : Outcome → Edited
-answer o = record { verdict = o .verdict; total = o .total }
-
-abbrev pub refusedWith : Verdict → Edited
-refusedWith v = record { verdict = v; total = 0 }
-
-abbrev pub acceptedWith : ℕ → Edited
-acceptedWith n = record { verdict = Fine; total = n }
+use Rattle.edit.specs.Answers.{outcome}
+use Rattle.edit.specs.Steps.{rehead, roomRows, sealedAt}
 
 -- ---- the calls
 
@@ -47,19 +33,7 @@ appending xs t i = appended xs (checkLink t i) (linkOf t i)
 abbrev pub largest : ℕ
 largest = uncounted + limit
 
--- ---- the rows 28, 27 and 29, of numbers
-
-unfoldable pub roomRows : ℕ → ℕ → ℕ → Verdict
-roomRows room body len =
-    refuse (ltb limit len) 28 len limit
-    ▷ refuse (ltb longest body) 27 body longest
-    ▷ refuse (ltb room (uncounted + len)) 29 (uncounted + len) room
-
 -- ---- the steps
-
--- the CRC of what stands before e, at e
-unfoldable pub sealedAt : List ℕ → ℕ → List ℕ
-sealedAt xs e = sets xs e (bytes32 (crcOf (take e xs)))
 
 -- filled from p up to e
 unfoldable pub filledUp : List ℕ → ℕ → ℕ → List ℕ
@@ -96,11 +70,6 @@ spliced xs p q c len count = rehead (sets (sets xs (p + length c) (part xs q (pa
 -- then the CRC, and filler up to the old end
 unfoldable pub finished : List ℕ → ℕ → ℕ → List ℕ
 finished ys len total = filledUp (sealedAt ys (uncounted + len - crcLength)) (uncounted + len) total
-
--- fine: the total and the new buffer; refused: total 0 and the old one
-unfoldable pub outcome : Verdict → ℕ → List ℕ → List ℕ → Outcome
-outcome Fine total new old = record { verdict = Fine; total = total; buffer = new }
-outcome (Refused r) total new old = record { verdict = Refused r; total = 0; buffer = old }
 
 unfoldable pub betweenVerdict : List ℕ → ℕ → ℕ → List ℕ → LinkInfo → Verdict
 betweenVerdict xs p q t k = checkLink t k ▷ roomRows (length xs) (linkLength k) (lengthBetween xs p q (linkLength k))

@@ -1,4 +1,3 @@
--- Making, appending and replacing as the code's calls: of the records that they are handed.
+-- Appending and replacing as the code's calls: of the records that they are handed.
 pub mod Editing
-pub mod Making
 pub mod Again

@@ -1,15 +1,12 @@
 // Appending a link to a section in a lent buffer, and replacing one of its links.
 ghost use mathlib.Core.Path.{_≡_};
-ghost use Prim.Native.Nat.{_≤_};
-ghost use lib.ListN.{length};
-ghost use Rattle.wire.specs.Lengths.{blockEnd};
-ghost use Rattle.editor.specs.Editing.{answer, appending, replacing};
-use crate::Edited;
+ghost use Rattle.edit.specs.Answers.{answer};
+ghost use Rattle.editor.specs.Editing.{appending, replacing};
 use crate::splicing;
-use crate::steps;
+use edit::Edited;
+use edit::steps;
 use link::LinkInfo;
 use reader::Located;
-use wire::lengths::LengthField;
 use wire::verdict::Refusal;
 use wire::verdict::Verdict;
 
@@ -23,6 +20,7 @@ pub fn append(b: &mut [u8], text: &[u8], link: LinkInfo) -> Edited
         Located::Refused(refusal) => steps::refused(Verdict::Refused(refusal)),
         Located::At {
             link_at: _,
+            link_end: _,
             loop_at,
         } => {
             let count = wire::wide(b[steps::COUNT_AT]);
@@ -48,6 +46,7 @@ pub fn replace(b: &mut [u8], number: usize, text: &[u8], link: LinkInfo) -> Edit
         Located::Refused(r) => steps::refused(Verdict::Refused(r)),
         Located::At {
             link_at,
+            link_end,
             loop_at: _,
         } => {
             let count = wire::wide(b[steps::COUNT_AT]);
@@ -58,17 +57,7 @@ pub fn replace(b: &mut [u8], number: usize, text: &[u8], link: LinkInfo) -> Edit
                     second: count,
                 }));
             }
-            let end = entry_end(b, link_at);
-            splicing::put_between(b, link_at, end, count, text, link)
+            splicing::put_between(b, link_at, link_end, count, text, link)
         }
     }
-}
-
-// The place behind the entry that stands at `at`.
-fn entry_end(s: &[u8], at: usize) -> usize
-    requires { ⌜ blockEnd (now s) at ≤ length (now s) ⌝ }
-    ensures { λ r. ⌜ r ≡ blockEnd (now (s .entry)) at ⌝ }
-{
-    let field = LengthField::of_bytes(s[at], s[at + 1]);
-    at + steps::LENGTH_BYTES + field.length
 }

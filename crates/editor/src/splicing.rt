@@ -10,12 +10,11 @@ ghost use Rattle.draft.specs.Checks.{checkLink};
 ghost use Rattle.draft.specs.Lengths.{linkLength};
 ghost use Rattle.edit.specs.Edit.{mostLinks};
 ghost use Rattle.edit.specs.Steps.{rehead};
-ghost use Rattle.editor.specs.Editing.{answer, filledUp, entryBytes, Spot, Fitting, largest, spliced, between};
-use crate::Edited;
-use crate::steps;
-use draft::checks;
+ghost use Rattle.edit.specs.Answers.{answer};
+ghost use Rattle.editor.specs.Editing.{filledUp, entryBytes, Spot, Fitting, largest, spliced, between};
 use draft::lengths;
-use draft::writing;
+use edit::Edited;
+use edit::steps;
 use frame::Table;
 use link::LinkInfo;
 use section::RctHeader;
@@ -38,7 +37,7 @@ pub(crate) fn put_between(
     ensures { λ r. ⌜ r ≡ answer (between (now (b .entry)) from to count (now (text .entry)) link) ⌝ }
     ensures { λ r. ⌜ now (b .exit) ≡ between (now (b .entry)) from to count (now (text .entry)) link .buffer ⌝ }
 {
-    let own = checks::check_link(text, link);
+    let own = link_checker::check_link(text, link);
     let Verdict::Fine = own else {
         return steps::refused(own);
     };
@@ -99,7 +98,7 @@ fn put_entry(b: &mut [u8], at: usize, text: &[u8], link: LinkInfo)
     };
     let bytes = field.to_bytes();
     wire::put_at(b, at, &bytes);
-    writing::write_link(b, at + steps::LENGTH_BYTES, text, link);
+    link_writer::write_link(b, at + steps::LENGTH_BYTES, text, link);
 }
 
 // section_length anew, the four bits beside it kept, and the number of links.

@@ -10,7 +10,7 @@ use mathlib.Core.List.{List, _∷_, map}
 use lib.ListN.{length, take, replicate}
 use lib.Seq.{take-at}
 use denote.Ref.{RefT, now}
-use Rattle.wire.specs.Fields.{numberItems}
+use Rattle.field.specs.Fields.{numberItems}
 use Rattle.wire.specs.declared.verdict.Refusal.{Refusal}
 use Rattle.wire.specs.declared.verdict.Verdict.the-variants.{Fine, Refused}
 use Rattle.wire.proofs.Verdicts.{then-fine, passed-leb}

@@ -20,7 +20,7 @@ pub struct Stepped {
 fn step_at(body: &[u8], place: usize) -> Stepped
     ensures { λ r. ⌜ r ≡ stepped (now (body .entry)) place ⌝ }
 {
-    let item = link::reading::read_item(body, 0, place);
+    let item = link_reader::read_item(body, 0, place);
     match item {
         ItemRead::Got(_) => Stepped {
             item,

@@ -1,34 +1,32 @@
 -- The body of a fitting link is accepted, and read as the link that it was written from.
 -- Assumes nothing.
-use mathlib.Core.Path.{_≡_, refl, sym, ap, ap₂, _∙_}
-use Prim.Native.Nat.{ℕ, _+_, _*_, _/_, _%_, _≤_, _<_}
+use mathlib.Core.Path.{_≡_, refl, sym, ap, _∙_}
+use Prim.Native.Nat.{ℕ, _+_, _*_, _/_, _≤_}
 use native.Mathlib.Omega.{arith}
-use native.Mathlib.Nat.{add-zero}
 use mathlib.Core.Bool.{Bool, true, false, true≢false}
-use mathlib.Core.List.{List, [], _∷_, _++_, append-assoc, append-nil}
+use mathlib.Core.List.{List, [], _∷_, _++_, append-nil}
 use mathlib.Core.Option.{Option, none, some}
 use lib.Dec.{eqb, ltb}
-use lib.ListN.{length, take, drop, getD, length-append}
+use lib.ListN.{length, drop, getD, length-append}
 use lib.Seq.{take-at}
 use Rattle.wire.specs.Choice.{pick, bit}
-use Rattle.wire.specs.Lists.{Bytes, part}
-use Rattle.wire.specs.Lengths.{Block, BlockFits, blockBytes, blockAt, blockEnd, besideAt, lengthAt}
+use Rattle.wire.specs.Lists.{part}
+use Rattle.field.specs.Fields.{low, iconId}
+use Rattle.wire.specs.Lengths.{Block, BlockFits, blockBytes, blockEnd, besideAt}
 use Rattle.wire.specs.Verdict.{refuse, _▷_}
-use Rattle.wire.specs.declared.verdict.Verdict.{Verdict}
-use Rattle.wire.specs.declared.verdict.Verdict.the-variants.{Fine, Refused}
-use Rattle.wire.proofs.Parts.{at-drop, at-drop-first, drop-past}
+use Rattle.wire.specs.declared.verdict.Verdict.the-variants.{Fine}
+use Rattle.wire.proofs.Parts.{at-drop-first, drop-past}
 use Rattle.wire.proofs.Blocks.{BlockRead, block-back, block-length, last-pass}
 use Rattle.wire.proofs.Verdicts.{fine-then, pass-ltb}
-use Rattle.locator.specs.Syntax.{Fits, locatorBytes, locatorLength}
+use Rattle.locator.specs.Syntax.{locatorBytes, locatorLength}
 use Rattle.locator.proofs.Back as locator
 use Rattle.locator.proofs.Sizes.{bytes-length}
 use Rattle.locator.specs.Reading.{readLocator}
 use Rattle.locator.specs.declared.DvbBinaryLocator.{DvbBinaryLocator}
-use Rattle.locator.specs.declared.reading.LocatorRead.{LocatorRead}
 use Rattle.locator.specs.declared.reading.LocatorRead.the-variants as read
-use Rattle.link.specs.Syntax.{Link, LinkFits, UriFits, PlaceFits, here, uriDue, locatorDue, fieldBytes, uriBytes, placeBytes, itemsBytes, tailOf, linkBody}
-use Rattle.link.specs.Reading.{typeAt, uriEnd, locatorSaid, locatorGot, locatorUsed, locatorIn, countPlace, itemCount, tailPlace, uriVerdict, placeVerdict, countVerdict, itemsVerdict, frontVerdict, restVerdict, bodyVerdict, itemsAt, linkAt}
-use Rattle.link.proofs.Items.{ItemsRead, items-back, length-itemsAt}
+use Rattle.link.specs.Syntax.{Link, LinkFits, PlaceFits, here, uriDue, locatorDue, fieldBytes, uriBytes, placeBytes, itemsBytes, tailOf, linkBody}
+use Rattle.link.specs.Reading.{typeAt, typeReservedAt, howRelatedAt, termIdAt, groupIdAt, precedenceAt, uriEnd, locatorSaid, locatorGot, locatorUsed, countPlace, itemCount, itemsReservedAt, itemPlace, tailPlace, defaultIconAt, iconIdAt, uriVerdict, placeVerdict, countVerdict, itemsVerdict, frontVerdict, restVerdict, bodyVerdict, itemsAt, linkAt}
+use Rattle.link.proofs.Items.{ItemsRead, items-back}
 
 -- ---- the URI
 
@@ -110,12 +108,12 @@ module _ (l : Link) (f : LinkFits l) where
   size = omega (arith, length-append U (P ++ ((N ∷ I) ++ T)), length-append P ((N ∷ I) ++ T), length-append I T)
 
   record FieldsRead : Type 0 where
-    type-is : getD (linkBody l) 0 0 / 16 ≡ l .linkType
-    reserved-is : getD (linkBody l) 0 0 / 4 % 4 ≡ l .typeReserved
-    related-is : getD (linkBody l) 0 0 % 4 * 16 + getD (linkBody l) 1 0 / 16 ≡ l .howRelated
-    term-is : getD (linkBody l) 1 0 % 16 * 256 + getD (linkBody l) 2 0 ≡ l .termId
-    group-is : getD (linkBody l) 3 0 / 16 ≡ l .groupId
-    precedence-is : getD (linkBody l) 3 0 % 16 ≡ l .precedence
+    type-is : typeAt (linkBody l) ≡ l .linkType
+    reserved-is : typeReservedAt (linkBody l) ≡ l .typeReserved
+    related-is : howRelatedAt (linkBody l) ≡ l .howRelated
+    term-is : termIdAt (linkBody l) ≡ l .termId
+    group-is : groupIdAt (linkBody l) ≡ l .groupId
+    precedence-is : precedenceAt (linkBody l) ≡ l .precedence
     rest : drop 4 (linkBody l) ≡ U ++ (P ++ ((N ∷ I) ++ T))
 
   fields : FieldsRead
@@ -125,6 +123,8 @@ module _ (l : Link) (f : LinkFits l) where
       let h2 = f .howRelated in
       let h3 = f .termId in
       let h4 = f .precedence in
+      let h5 = f .linkType in
+      let h6 = f .groupId in
       record {
         type-is = omega arith;
         reserved-is = omega arith;
@@ -155,7 +155,7 @@ module _ (l : Link) (f : LinkFits l) where
       (drop-past (linkBody l) (countPlace (linkBody l)) 1 (N ∷ []) (I ++ T) (place .past) refl) (omega (arith, size, uri .end, place .end))
 
   tail-place : tailPlace (linkBody l) ≡ countPlace (linkBody l) + 1 + length I
-  tail-place = ap (λ n. Rattle.link.specs.Reading.itemPlace n (linkBody l) (countPlace (linkBody l) + 1)) number-is ∙ items .end
+  tail-place = ap (λ n. itemPlace n (linkBody l) (countPlace (linkBody l) + 1)) number-is ∙ items .end
 
   pub tail-fits : BlockFits (tailOf l)
   tail-fits = record { narrow = go (l .defaultIcon); short = f .short; bytes = f .descriptors }
@@ -165,7 +165,7 @@ module _ (l : Link) (f : LinkFits l) where
       go false = omega (arith, f .iconId)
 
   tail-past : drop (tailPlace (linkBody l)) (linkBody l) ≡ T ++ []
-  tail-past = ap (λ n. drop (Rattle.link.specs.Reading.itemPlace n (linkBody l) (countPlace (linkBody l) + 1)) (linkBody l)) number-is ∙ items .past ∙ sym (append-nil T)
+  tail-past = ap (λ n. drop (itemPlace n (linkBody l) (countPlace (linkBody l) + 1)) (linkBody l)) number-is ∙ items .past ∙ sym (append-nil T)
 
   tail : BlockRead (linkBody l) (tailPlace (linkBody l)) (tailOf l) []
   tail = block-back (linkBody l) (tailPlace (linkBody l)) (tailOf l) [] tail-fits tail-past
@@ -186,22 +186,22 @@ module _ (l : Link) (f : LinkFits l) where
   beside-is : besideAt (linkBody l) (tailPlace (linkBody l)) ≡ bit (l .defaultIcon) * 8 + l .iconId
   beside-is = ap (λ (b : Block). b .beside) (tail .same)
 
-  flag-is : eqb (besideAt (linkBody l) (tailPlace (linkBody l)) / 8) 1 ≡ l .defaultIcon
+  flag-is : defaultIconAt (linkBody l) ≡ l .defaultIcon
   flag-is = rw beside-is (go (l .defaultIcon))
     where
       go : (t : Bool) → eqb ((bit t * 8 + l .iconId) / 8) 1 ≡ t
       go true = let e : (bit true * 8 + l .iconId) / 8 ≡ 1 = omega (arith, f .iconId) in rw e
       go false = let e : (bit false * 8 + l .iconId) / 8 ≡ 0 = omega (arith, f .iconId) in rw e
 
-  icon-is : besideAt (linkBody l) (tailPlace (linkBody l)) % 8 ≡ l .iconId
+  icon-is : iconIdAt (linkBody l) ≡ l .iconId
   icon-is = rw beside-is (go (l .defaultIcon))
     where
-      go : (t : Bool) → (bit t * 8 + l .iconId) % 8 ≡ l .iconId
+      go : (t : Bool) → low iconId (bit t * 8 + l .iconId) ≡ l .iconId
       go true = omega (arith, f .iconId)
       go false = omega (arith, f .iconId)
 
-  reserved-is : getD (linkBody l) (countPlace (linkBody l)) 0 / 64 ≡ l .itemsReserved
-  reserved-is = omega (arith, count-is, f .count)
+  reserved-is : itemsReservedAt (linkBody l) ≡ l .itemsReserved
+  reserved-is = omega (arith, count-is, f .count, f .itemsReserved)
 
   items-is : itemsAt (itemCount (linkBody l)) (linkBody l) (countPlace (linkBody l) + 1) ≡ l .items
   items-is = ap (λ n. itemsAt n (linkBody l) (countPlace (linkBody l) + 1)) number-is ∙ items .same

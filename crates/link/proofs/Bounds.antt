@@ -1,16 +1,17 @@
--- How far the places of a body can lie, and what the rows before them leave known.
+-- What the rows of a body leave known of its places, and how far these can lie.
 -- Assumes nothing.
-use mathlib.Core.Path.{_≡_, refl, sym, ap, _∙_}
+use mathlib.Core.Path.{_≡_, refl, sym, _∙_}
 use mathlib.Core.Logic.{_⊎_, inl, inr}
 use Prim.Native.Nat.{ℕ, zero, suc, _+_, _*_, _≤_, _<_}
 use native.Mathlib.Omega.{arith}
 use native.Mathlib.Nat.{zero-add}
 use mathlib.Core.Bool.{Bool, true, false}
-use mathlib.Core.List.{List, [], _∷_}
-use lib.ListN.{length, getD, drop}
+use mathlib.Core.List.{List}
+use lib.Dec.{ltb}
+use lib.ListN.{length, getD, drop, length-drop}
 use Rattle.wire.specs.Choice.{pick}
 use Rattle.wire.specs.Lists.{Bytes}
-use Rattle.wire.specs.Lengths.{lastVerdict, blockEnd}
+use Rattle.wire.specs.Lengths.{blockEnd}
 use borrow.Author.Tests.{le-leb}
 use Rattle.wire.specs.Verdict.{refuse, _▷_}
 use Rattle.wire.specs.declared.verdict.Refusal.{Refusal}
@@ -18,21 +19,95 @@ use Rattle.wire.specs.declared.verdict.Verdict.{Verdict}
 use Rattle.wire.specs.declared.verdict.Verdict.the-variants.{Fine, Refused}
 use Rattle.wire.proofs.Parts.{bytes-at}
 use Rattle.wire.proofs.Blocks.{last-passed}
-use Rattle.wire.proofs.Verdicts.{then-fine, fine-then, passed-ltb, passed-leb, pass-leb, go-on, refused-then}
+use Rattle.wire.proofs.Verdicts.{then-fine, fine-then, passed-ltb, pass-ltb, passed-leb, pass-leb, go-on, refused-then}
 use Rattle.locator.specs.Reading.{readLocator}
+use Rattle.locator.specs.declared.DvbBinaryLocator.{DvbBinaryLocator}
 use Rattle.locator.specs.declared.reading.LocatorRead.{LocatorRead}
 use Rattle.locator.specs.declared.reading.LocatorRead.the-variants as read
+use Rattle.locator.proofs.Answers as locator
 use Rattle.locator.proofs.Sizes.{used-eight}
 use Rattle.link.specs.Syntax.{uriDue, locatorDue}
-use Rattle.link.specs.Reading.{typeAt, uriEnd, locatorIn, locatorUsed, countPlace, itemCount, itemEnd, itemPlace, tailPlace, itemsVerdict, uriVerdict, placeVerdict, countVerdict, frontVerdict, restVerdict, bodyVerdict}
+use Rattle.link.specs.Reading.{typeAt, uriEnd, locatorIn, locatorSaid, locatorUsed, countPlace, itemCount, itemEnd, itemPlace, tailPlace, itemVerdict, itemsVerdict, uriVerdict, placeVerdict, countVerdict, frontVerdict, restVerdict, bodyVerdict}
 use Rattle.link.specs.Records.{noLink, linkAnswer, itemInfo, itemRows, itemAnswer, itemRead}
 use Rattle.link.specs.Parts.{span, textSpan}
 use Rattle.link.specs.declared.LinkItem.{LinkItem}
 use Rattle.link.specs.declared.LinkInfo.{LinkInfo}
-use Rattle.link.specs.declared.reading.ItemRead.{ItemRead}
 use Rattle.link.specs.declared.reading.ItemRead.the-variants as item
 use Rattle.link.specs.declared.reading.LinkRead.{LinkRead}
-use Rattle.link.proofs.Stages.{uri-within, front-within, items-within, item-within}
+use Rattle.link.proofs.Items.{item-passed}
+
+-- ---- what passed rows leave known: the places lie within
+
+module _ (xs : List ℕ) where
+  pub uri-within : 4 ≤ length xs → uriVerdict xs ≡ Fine → uriEnd xs ≤ length xs
+  unfolding uriVerdict
+  uri-within h v = go (uriDue (typeAt xs)) v
+    where
+      go : (t : Bool) → pick t (refuse (ltb (length xs) 5) 7 5 (length xs) ▷ refuse (ltb (length xs) (5 + getD xs 4 0)) 8 (5 + getD xs 4 0) (length xs)) Fine ≡ Fine
+          → pick t (5 + getD xs 4 0) 4 ≤ length xs
+      go true v = passed-ltb (length xs) (5 + getD xs 4 0) _ _ _ (then-fine _ _ v .1)
+      go false v = h
+
+  pub place-used : (l : DvbBinaryLocator) (n : ℕ) → locatorIn xs ≡ read.Got l n → uriEnd xs ≤ length xs → uriEnd xs + n ≤ length xs
+  place-used l n e h = omega (arith, locator.used-le (drop (uriEnd xs) xs) l n e, length-drop (uriEnd xs) xs)
+
+  pub place-within : uriEnd xs ≤ length xs → placeVerdict xs ≡ Fine → countPlace xs ≤ length xs
+  unfolding placeVerdict
+  place-within h v = go (locatorDue (typeAt xs)) (locatorIn xs) refl v
+    where
+      go : (t : Bool) (a : LocatorRead) → locatorIn xs ≡ a
+          → pick t (refuse (ltb (length xs) (uriEnd xs + 1)) 9 (uriEnd xs + 1) (length xs) ▷ locatorSaid a) Fine ≡ Fine
+          → pick t (uriEnd xs + locatorUsed a) (uriEnd xs) ≤ length xs
+      go false a e v = h
+      go true (read.Got l n) e v = place-used l n e h
+      go true (read.Refused r) e v = let z : _≡_ {A = ℕ} 0 1 = (let q = then-fine _ _ v .1 in cc) in absurd (omega arith)
+
+  pub front-on : 4 ≤ length xs → uriVerdict xs ≡ Fine → placeVerdict xs ▷ countVerdict xs ≡ frontVerdict xs
+  unfolding frontVerdict
+  front-on h v = sym (go-on _ _ (pass-ltb (length xs) 4 6 4 (length xs) h) ∙ go-on _ _ v)
+
+  pub front-within : frontVerdict xs ≡ Fine → countPlace xs < length xs
+  unfolding frontVerdict countVerdict
+  front-within v =
+      let a = then-fine _ _ v in
+      let b = then-fine (uriVerdict xs) _ (a .1) in
+      omega (arith, passed-ltb (length xs) (countPlace xs + 1) _ _ _ (then-fine (placeVerdict xs) _ (b .1) .1))
+
+  pub body-front : (r : Refusal) → frontVerdict xs ≡ Refused r → Refused r ≡ bodyVerdict xs
+  unfolding bodyVerdict
+  body-front r v = sym (refused-then (frontVerdict xs) (restVerdict xs) r v)
+
+  pub body-rest : frontVerdict xs ≡ Fine → restVerdict xs ≡ bodyVerdict xs
+  unfolding bodyVerdict
+  body-rest v = sym (go-on (frontVerdict xs) (restVerdict xs) v)
+
+-- items that are passed lie within
+pub items-within : (n : ℕ) (xs : List ℕ) (p : ℕ) → p ≤ length xs → itemsVerdict n xs p ≡ Fine → itemPlace n xs p ≤ length xs
+unfolding itemsVerdict
+items-within zero xs p h v = h
+items-within (suc n) xs p h v =
+    let two = then-fine (itemVerdict xs p) _ v in
+    items-within n xs (itemEnd xs p) (item-passed xs p (two .0)) (two .1)
+
+-- so are those before a number of them
+pub items-before : (n k : ℕ) (xs : List ℕ) (p : ℕ) → k ≤ n → itemsVerdict n xs p ≡ Fine → itemsVerdict k xs p ≡ Fine
+unfolding itemsVerdict
+items-before n zero xs p h v = refl
+items-before zero (suc k) xs p h v = absurd (omega arith)
+items-before (suc n) (suc k) xs p h v =
+    let two = then-fine (itemVerdict xs p) _ v in
+    fine-then _ _ (two .0) (items-before n k xs (itemEnd xs p) (omega arith) (two .1))
+
+-- an item before the last lies within
+pub item-within : (n k : ℕ) (xs : List ℕ) (p : ℕ) → k < n → p ≤ length xs → itemsVerdict n xs p ≡ Fine → itemEnd xs (itemPlace k xs p) ≤ length xs
+unfolding itemsVerdict
+item-within zero k xs p h l v = absurd (omega arith)
+item-within (suc n) zero xs p h l v = item-passed xs p (then-fine (itemVerdict xs p) _ v .0)
+item-within (suc n) (suc k) xs p h l v =
+    let two = then-fine (itemVerdict xs p) _ v in
+    item-within n k xs (itemEnd xs p) (omega arith) (item-passed xs p (two .0)) (two .1)
+
+-- ---- how far they can lie
 
 -- a URI has at most 255 bytes, a locator at most 15
 uri-short : (xs : List ℕ) → Bytes xs → uriEnd xs ≤ 260
@@ -74,7 +149,6 @@ items-short (suc n) xs p b = omega (arith, items-short n xs (itemEnd xs p) b, by
 pub tail-short : (xs : List ℕ) → Bytes xs → tailPlace xs ≤ 16593
 tail-short xs b = omega (arith, items-short (itemCount xs) xs (countPlace xs + 1) b, count-short xs b)
 
--- what passed rows leave known
 pub record Front (xs : List ℕ) : Type 0 where
   pub four : 4 ≤ length xs
   pub uri : uriEnd xs ≤ length xs

@@ -1,19 +1,15 @@
--- A record's items, filled one by one from the body: what a turn of the loop leaves, and what its answers say.
+-- A record's items, filled one by one from the body: what a turn of the loop leaves.
 -- Assumes nothing.
 use mathlib.Core.Path.{_≡_, refl, sym, ap, _∙_}
-use Prim.Native.Nat.{ℕ, zero, suc, _+_, _-_, _*_, _≤_, _<_}
+use Prim.Native.Nat.{ℕ, zero, suc, _+_, _-_, _<_}
 use native.Mathlib.Omega.{arith}
 use native.Mathlib.Numerals.{add-one}
 use mathlib.Core.List.{List, [], _∷_, _++_, append-assoc}
-use lib.ListN.{length, getD, set, replicate}
+use lib.ListN.{length, set, replicate}
 use lib.Seq.{set-at}
-use Rattle.wire.specs.Verdict.{bad}
-use Rattle.wire.specs.declared.verdict.Verdict.the-variants.{Fine}
-use Rattle.link.specs.Reading.{itemEnd, itemPlace, itemsVerdict}
+use Rattle.link.specs.Reading.{itemEnd, itemPlace}
 use Rattle.link.specs.Records.{noItem, filled, itemInfo, itemInfos}
-use Rattle.link.specs.Steps.{ItemsFilled}
 use Rattle.link.specs.declared.LinkItem.{LinkItem}
-use Rattle.link.specs.declared.reading.ItemsRead.{ItemsRead}
 
 pub length-infos : (base n : ℕ) (xs : List ℕ) (p : ℕ) → length (itemInfos base n xs p) ≡ n
 unfolding itemInfos
@@ -56,12 +52,3 @@ filled-more base i xs p h =
 
     right : 62 - i ≡ 63 - length (itemInfos base (i + 1) xs p)
     right = omega (arith, length-infos base (i + 1) xs p)
-
--- an answer that refuses
-pub filled-not : (base n : ℕ) (xs : List ℕ) (p : ℕ) (r : ItemsRead) (a b c : ℕ) → r .verdict ≡ bad a b c → itemsVerdict n xs p ≡ bad a b c → ItemsFilled base n xs p r
-filled-not base n xs p r a b c e v =
-    record {
-      verdict = e ∙ sym v;
-      end = λ f. let z : _≡_ {A = ℕ} 0 1 = cc in absurd (omega arith);
-      items = λ f. let z : _≡_ {A = ℕ} 0 1 = cc in absurd (omega arith);
-    }

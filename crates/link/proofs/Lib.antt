@@ -3,7 +3,7 @@ pub mod Items
 pub mod Rebuild
 pub mod Back
 pub mod Laws
-pub mod Stages
+pub mod Turns
 pub mod Filling
 pub mod Bounds
 pub mod Image

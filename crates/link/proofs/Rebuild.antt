@@ -1,7 +1,7 @@
 -- A body that is accepted is the syntax's bytes of the link read from it, and that link fits.
 -- Assumes nothing.
-use mathlib.Core.Path.{_≡_, refl, sym, ap, ap₂, _∙_}
-use Prim.Native.Nat.{ℕ, _+_, _*_, _/_, _%_, _≤_, _<_}
+use mathlib.Core.Path.{_≡_, refl, sym, ap, _∙_}
+use Prim.Native.Nat.{ℕ, _+_, _*_, _/_, _%_, _≤_}
 use native.Mathlib.Omega.{arith}
 use native.Mathlib.Numerals.{add-one}
 use mathlib.Core.Bool.{Bool, true, false}
@@ -9,25 +9,24 @@ use mathlib.Core.List.{List, [], _∷_, _++_, append-assoc, append-nil}
 use mathlib.Core.Option.{Option, none, some}
 use lib.Dec.{eqb}
 use lib.ListN.{length, take, drop, getD, length-drop}
-use lib.Seq.{take-add, take-suc, take-length, take-all}
+use lib.Seq.{take-add, take-suc, take-all}
 use borrow.Author.Tests.{eqb-true, eqb-false}
 use Rattle.wire.specs.Choice.{pick, bit}
-use Rattle.wire.specs.Lists.{Bytes, part, firsts}
-use Rattle.wire.specs.Lengths.{Block, blockBytes, blockAt, blockEnd, besideAt, lengthAt, lastVerdict}
+use Rattle.wire.specs.Lists.{Bytes, part}
+use Rattle.field.specs.Fields.{low, iconId}
+use Rattle.wire.specs.Lengths.{blockBytes, blockEnd, besideAt}
 use Rattle.wire.specs.Verdict.{refuse, _▷_}
 use Rattle.wire.specs.declared.verdict.Verdict.{Verdict}
 use Rattle.wire.specs.declared.verdict.Verdict.the-variants.{Fine, Refused}
 use Rattle.wire.proofs.Parts.{bytes-at, bytes-part, bytes-drop, length-part, firsts-part}
 use Rattle.wire.proofs.Blocks.{block-rebuild, block-fits, beside-narrow, last-passed}
 use Rattle.wire.proofs.Verdicts.{then-fine, passed-ltb}
-use Rattle.locator.specs.Syntax.{Fits, locatorBytes}
 use Rattle.locator.specs.Reading.{readLocator}
 use Rattle.locator.proofs.Rebuild as locator
-use Rattle.locator.specs.declared.DvbBinaryLocator.{DvbBinaryLocator}
 use Rattle.locator.specs.declared.reading.LocatorRead.{LocatorRead}
 use Rattle.locator.specs.declared.reading.LocatorRead.the-variants as read
-use Rattle.link.specs.Syntax.{Link, LinkFits, UriFits, PlaceFits, here, uriDue, locatorDue, fieldBytes, uriBytes, placeBytes, itemsBytes, tailOf, linkBody}
-use Rattle.link.specs.Reading.{typeAt, uriEnd, locatorSaid, locatorGot, locatorUsed, locatorIn, countPlace, itemCount, tailPlace, uriVerdict, placeVerdict, countVerdict, itemsVerdict, frontVerdict, restVerdict, bodyVerdict, itemsAt, linkAt}
+use Rattle.link.specs.Syntax.{LinkFits, UriFits, PlaceFits, here, uriDue, locatorDue, fieldBytes, uriBytes, placeBytes, itemsBytes, tailOf, linkBody}
+use Rattle.link.specs.Reading.{typeAt, typeReservedAt, howRelatedAt, termIdAt, groupIdAt, precedenceAt, uriEnd, locatorSaid, locatorGot, locatorUsed, locatorIn, countPlace, itemCount, itemsReservedAt, tailPlace, uriVerdict, placeVerdict, countVerdict, itemsVerdict, frontVerdict, restVerdict, bodyVerdict, itemsAt, linkAt}
 use Rattle.link.proofs.Items.{items-rebuild, ItemsRebuilt, length-itemsAt}
 
 -- ---- the rows that are passed
@@ -117,22 +116,22 @@ fields-rebuild : (r : ℕ) (xs : List ℕ) → Bytes xs → 4 ≤ length xs → 
 unfolding fieldBytes linkAt
 fields-rebuild r xs b h = (λ i. q0 i ∷ q1 i ∷ q2 i ∷ q3 i ∷ []) ∙ firsts-part 4 xs 0 (omega arith)
   where
-    q0 : getD xs 0 0 / 16 * 16 + getD xs 0 0 / 4 % 4 * 4 + (getD xs 0 0 % 4 * 16 + getD xs 1 0 / 16) / 16 ≡ getD xs 0 0
-    q0 = omega (arith, bytes-at xs 1 b)
+    q0 : typeAt xs * 16 + typeReservedAt xs * 4 + howRelatedAt xs / 16 ≡ getD xs 0 0
+    q0 = omega (arith, bytes-at xs 0 b, bytes-at xs 1 b)
 
-    q1 : (getD xs 0 0 % 4 * 16 + getD xs 1 0 / 16) % 16 * 16 + (getD xs 1 0 % 16 * 256 + getD xs 2 0) / 256 ≡ getD xs 1 0
+    q1 : howRelatedAt xs % 16 * 16 + termIdAt xs / 256 ≡ getD xs 1 0
     q1 = omega (arith, bytes-at xs 1 b, bytes-at xs 2 b)
 
-    q2 : (getD xs 1 0 % 16 * 256 + getD xs 2 0) % 256 ≡ getD xs 2 0
+    q2 : termIdAt xs % 256 ≡ getD xs 2 0
     q2 = omega (arith, bytes-at xs 2 b)
 
-    q3 : getD xs 3 0 / 16 * 16 + getD xs 3 0 % 16 ≡ getD xs 3 0
-    q3 = omega arith
+    q3 : groupIdAt xs * 16 + precedenceAt xs ≡ getD xs 3 0
+    q3 = omega (arith, bytes-at xs 3 b)
 
-flag-rebuild : (n : ℕ) → n ≤ 15 → bit (eqb (n / 8) 1) * 8 + n % 8 ≡ n
+flag-rebuild : (n : ℕ) → n ≤ 15 → bit (eqb (n / 8) 1) * 8 + low iconId n ≡ n
 flag-rebuild n h = go (eqb (n / 8) 1) refl
   where
-    go : (t : Bool) → eqb (n / 8) 1 ≡ t → bit t * 8 + n % 8 ≡ n
+    go : (t : Bool) → eqb (n / 8) 1 ≡ t → bit t * 8 + low iconId n ≡ n
     go true e = omega (arith, eqb-true (n / 8) 1 e)
     go false e = omega (arith, eqb-false (n / 8) 1 e)
 
@@ -153,13 +152,11 @@ module _ (r : ℕ) (xs : List ℕ) (b : Bytes xs) (h : r ≤ 15) (v : bodyVerdic
   items : ItemsRebuilt (itemCount xs) xs (countPlace xs + 1)
   items = items-rebuild (itemCount xs) xs (countPlace xs + 1) b (p .count) (p .items)
 
-  abbrev count : ℕ
-  count = getD xs (countPlace xs) 0
-
-  counted : take (countPlace xs) xs ++ ((count / 64 * 64 + length (itemsAt (itemCount xs) xs (countPlace xs + 1))) ∷ []) ≡ take (countPlace xs + 1) xs
+  counted : take (countPlace xs) xs ++ ((itemsReservedAt xs * 64 + length (itemsAt (itemCount xs) xs (countPlace xs + 1))) ∷ []) ≡ take (countPlace xs + 1) xs
   counted =
-      let e : count / 64 * 64 + length (itemsAt (itemCount xs) xs (countPlace xs + 1)) ≡ count = omega (arith, length-itemsAt (itemCount xs) xs (countPlace xs + 1)) in
-      rw (e, add-one) (sym (take-suc xs (countPlace xs) 0 (omega (arith, p .count))))
+      let e : itemsReservedAt xs * 64 + length (itemsAt (itemCount xs) xs (countPlace xs + 1)) ≡ getD xs (countPlace xs) 0 =
+      omega (arith, length-itemsAt (itemCount xs) xs (countPlace xs + 1), bytes-at xs (countPlace xs) b) in
+      rw (e, add-one (countPlace xs)) (sym (take-suc xs (countPlace xs) 0 (omega (arith, p .count))))
 
   tail : take (tailPlace xs) xs ++ blockBytes (tailOf (linkAt r xs)) ≡ xs
   unfolding linkAt

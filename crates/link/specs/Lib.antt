@@ -2,5 +2,4 @@
 pub mod Syntax
 pub mod Reading
 pub mod Records
-pub mod Steps
 pub mod Parts

@@ -2,15 +2,17 @@
 -- for. Places are counted from the body's first byte; each is a total function of the bytes, and means something where
 -- the rows before it are passed.
 -- Assumes nothing.
-use Prim.Native.Nat.{ℕ, zero, suc, _+_, _-_, _*_, _/_, _%_}
-use mathlib.Core.Bool.{Bool, true, false}
+use Prim.Native.Nat.{ℕ, zero, suc, _+_, _/_}
+use mathlib.Core.Bool.{Bool}
 use mathlib.Core.List.{List, [], _∷_}
 use mathlib.Core.Option.{Option, none, some}
 use lib.Dec.{eqb, ltb}
 use lib.ListN.{length, getD, drop}
 use Rattle.wire.specs.Choice.{pick}
 use Rattle.wire.specs.Lists.{part}
-use Rattle.wire.specs.Lengths.{lengthAt, besideAt, blockEnd, lastVerdict}
+use Rattle.field.specs.Fields.{low, howRelated, termId, linkType, linkTypeReserved, groupId, precedence, numberItems, numberItemsReserved, iconId}
+use Rattle.wire.specs.Lengths.{lengthAt, besideAt, lastVerdict}
+use Rattle.wire.specs.Numbers.{be16}
 use Rattle.wire.specs.Verdict.{refuse, _▷_}
 use Rattle.wire.specs.declared.verdict.Verdict.{Verdict}
 use Rattle.wire.specs.declared.verdict.Verdict.the-variants.{Fine, Refused}
@@ -20,10 +22,27 @@ use Rattle.locator.specs.declared.reading.LocatorRead.{LocatorRead}
 use Rattle.locator.specs.declared.reading.LocatorRead.the-variants as read
 use Rattle.link.specs.Syntax.{Item, Link, uriDue, locatorDue}
 
--- ---- the places
+-- ---- the fields of the first four bytes: a `/` says how many bits stand behind a field, `low` how many it has
 
 abbrev pub typeAt : List ℕ → ℕ
-typeAt xs = getD xs 0 0 / 16
+typeAt xs = low linkType (getD xs 0 0 / 16)
+
+abbrev pub typeReservedAt : List ℕ → ℕ
+typeReservedAt xs = low linkTypeReserved (getD xs 0 0 / 4)
+
+abbrev pub howRelatedAt : List ℕ → ℕ
+howRelatedAt xs = low howRelated (be16 xs 0 / 16)
+
+abbrev pub termIdAt : List ℕ → ℕ
+termIdAt xs = low termId (be16 xs 1)
+
+abbrev pub groupIdAt : List ℕ → ℕ
+groupIdAt xs = low groupId (getD xs 3 0 / 16)
+
+abbrev pub precedenceAt : List ℕ → ℕ
+precedenceAt xs = low precedence (getD xs 3 0)
+
+-- ---- the places, and the fields that stand there
 
 -- behind the URI, if there is one: a length byte, and as many bytes
 abbrev pub uriEnd : List ℕ → ℕ
@@ -51,7 +70,10 @@ abbrev pub countPlace : List ℕ → ℕ
 countPlace xs = pick (locatorDue (typeAt xs)) (uriEnd xs + locatorUsed (locatorIn xs)) (uriEnd xs)
 
 abbrev pub itemCount : List ℕ → ℕ
-itemCount xs = getD xs (countPlace xs) 0 % 64
+itemCount xs = low numberItems (getD xs (countPlace xs) 0)
+
+abbrev pub itemsReservedAt : List ℕ → ℕ
+itemsReservedAt xs = low numberItemsReserved (getD xs (countPlace xs) 0 / 64)
 
 -- behind an item at p: three language bytes, a length byte, and as many bytes
 abbrev pub itemEnd : List ℕ → ℕ → ℕ
@@ -65,6 +87,12 @@ itemPlace (suc n) xs p = itemPlace n xs (itemEnd xs p)
 -- behind the items: default icon flag, icon and the descriptors
 abbrev pub tailPlace : List ℕ → ℕ
 tailPlace xs = itemPlace (itemCount xs) xs (countPlace xs + 1)
+
+abbrev pub defaultIconAt : List ℕ → Bool
+defaultIconAt xs = eqb (besideAt xs (tailPlace xs) / 8) 1
+
+abbrev pub iconIdAt : List ℕ → ℕ
+iconIdAt xs = low iconId (besideAt xs (tailPlace xs))
 
 -- ---- the verdict: document 01's 6 to 16
 
@@ -121,16 +149,16 @@ linkAt r xs =
     record {
       lengthReserved = r;
       linkType = typeAt xs;
-      typeReserved = getD xs 0 0 / 4 % 4;
-      howRelated = getD xs 0 0 % 4 * 16 + getD xs 1 0 / 16;
-      termId = getD xs 1 0 % 16 * 256 + getD xs 2 0;
-      groupId = getD xs 3 0 / 16;
-      precedence = getD xs 3 0 % 16;
+      typeReserved = typeReservedAt xs;
+      howRelated = howRelatedAt xs;
+      termId = termIdAt xs;
+      groupId = groupIdAt xs;
+      precedence = precedenceAt xs;
       uri = pick (uriDue (typeAt xs)) (some (part xs 5 (getD xs 4 0))) none;
       locator = pick (locatorDue (typeAt xs)) (locatorGot (locatorIn xs)) none;
-      itemsReserved = getD xs (countPlace xs) 0 / 64;
+      itemsReserved = itemsReservedAt xs;
       items = itemsAt (itemCount xs) xs (countPlace xs + 1);
-      defaultIcon = eqb (besideAt xs (tailPlace xs) / 8) 1;
-      iconId = besideAt xs (tailPlace xs) % 8;
+      defaultIcon = defaultIconAt xs;
+      iconId = iconIdAt xs;
       descriptors = part xs (tailPlace xs + 2) (lengthAt xs (tailPlace xs));
     }

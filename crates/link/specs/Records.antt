@@ -1,24 +1,24 @@
 -- A link's record, as the code carries it: the link that it stands for with a text, and the record of a body that is read,
 -- whose ranges are counted from a base, the body's place in the text.
 -- Assumes nothing.
-use Prim.Native.Nat.{ℕ, zero, suc, _+_, _-_, _*_, _/_, _%_, _≤_}
-use mathlib.Core.Bool.{Bool, true, false}
+use Prim.Native.Nat.{ℕ, zero, suc, _+_, _-_}
+use mathlib.Core.Bool.{false}
 use mathlib.Core.List.{List, [], _∷_, _++_, map}
 use mathlib.Core.Option.{Option, none, some}
-use lib.Dec.{eqb, leb}
+use lib.Dec.{leb}
 use lib.ListN.{length, getD, take, replicate}
 use Rattle.wire.specs.Choice.{pick}
 use Rattle.wire.specs.Lists.{part}
-use Rattle.wire.specs.Lengths.{lengthAt, besideAt}
-use Rattle.wire.specs.Verdict.{bad, refuse, _▷_}
-use Rattle.wire.specs.Fields.{linkTypeReserved, numberItems, numberItemsReserved, linkLengthReserved}
+use Rattle.wire.specs.Lengths.{lengthAt}
+use Rattle.wire.specs.Verdict.{refuse, _▷_}
+use Rattle.field.specs.Fields.{linkTypeReserved, numberItems, numberItemsReserved, linkLengthReserved}
 use Rattle.wire.specs.declared.verdict.Verdict.{Verdict}
 use Rattle.wire.specs.declared.verdict.Verdict.the-variants.{Fine, Refused}
 use Rattle.locator.specs.declared.DvbBinaryLocator.{DvbBinaryLocator}
 use Rattle.locator.specs.declared.reading.LocatorRead.{LocatorRead}
 use Rattle.locator.specs.declared.reading.LocatorRead.the-variants as read
 use Rattle.link.specs.Syntax.{Item, Link, uriDue, locatorDue}
-use Rattle.link.specs.Reading.{typeAt, uriEnd, locatorIn, countPlace, itemCount, itemEnd, itemPlace, tailPlace, bodyVerdict}
+use Rattle.link.specs.Reading.{typeAt, typeReservedAt, howRelatedAt, termIdAt, groupIdAt, precedenceAt, locatorIn, countPlace, itemCount, itemsReservedAt, itemEnd, itemPlace, tailPlace, defaultIconAt, iconIdAt, bodyVerdict}
 use Rattle.link.specs.declared.Range.{Range}
 use Rattle.link.specs.declared.LinkItem.{LinkItem}
 use Rattle.link.specs.declared.MediaUri.{MediaUri}
@@ -150,18 +150,18 @@ infoAt base r xs =
     record {
       «reserved_link_info_length» = r;
       «link_type» = typeAt xs;
-      «reserved_link_type» = getD xs 0 0 / 4 % 4;
-      «how_related» = getD xs 0 0 % 4 * 16 + getD xs 1 0 / 16;
-      «term_id» = getD xs 1 0 % 16 * 256 + getD xs 2 0;
-      «group_id» = getD xs 3 0 / 16;
-      precedence = getD xs 3 0 % 16;
+      «reserved_link_type» = typeReservedAt xs;
+      «how_related» = howRelatedAt xs;
+      «term_id» = termIdAt xs;
+      «group_id» = groupIdAt xs;
+      precedence = precedenceAt xs;
       «media_uri» = uriInfo base xs;
       «dvb_binary_locator» = locatorInfo xs;
-      «reserved_number_items» = getD xs (countPlace xs) 0 / 64;
+      «reserved_number_items» = itemsReservedAt xs;
       «number_items» = itemCount xs;
       items = filled (itemInfos base (itemCount xs) xs (countPlace xs + 1));
-      «default_icon_flag» = eqb (besideAt xs (tailPlace xs) / 8) 1;
-      «icon_id» = besideAt xs (tailPlace xs) % 8;
+      «default_icon_flag» = defaultIconAt xs;
+      «icon_id» = iconIdAt xs;
       descriptors = record { start = base + (tailPlace xs + 2); length = lengthAt xs (tailPlace xs) };
     }
 

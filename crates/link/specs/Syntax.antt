@@ -11,7 +11,7 @@ use lib.ListN.{length}
 use Rattle.wire.specs.Choice.{pick, bit}
 use Rattle.wire.specs.Lists.{Bytes}
 use Rattle.wire.specs.Lengths.{Block, blockBytes}
-use Rattle.wire.specs.Fields.{howRelated, termId, linkType, linkTypeReserved, groupId, precedence, uriLength, numberItems, numberItemsReserved, textLength, descriptorLength, iconId, linkLengthReserved}
+use Rattle.field.specs.Fields.{howRelated, termId, linkType, linkTypeReserved, groupId, precedence, uriLength, numberItems, numberItemsReserved, textLength, descriptorLength, iconId, linkLengthReserved}
 use Rattle.locator.specs.Syntax.{Fits, locatorBytes}
 use Rattle.locator.specs.declared.DvbBinaryLocator.{DvbBinaryLocator}
 use Rattle.link.specs.declared.LangCode.{LangCode}

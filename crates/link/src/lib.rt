@@ -1,8 +1,10 @@
-// A link of the related content section (ETSI TS 102 323, 10.4.3, Table 110): its record, and the reading of its body.
+// A link of the related content section (ETSI TS 102 323, 10.4.3, Table 110): its record, which link types have what, and
+// what a reading of its body answers.
 ghost use mathlib.Core.Path.{_≡_};
+ghost use Rattle.link.specs.Syntax.{uriDue, locatorDue};
 ghost use Rattle.link.specs.Records.{noItem, noLink, newLink};
+use field::Field;
 use locator::DvbBinaryLocator;
-use wire::field::Field;
 
 pub mod parts;
 pub mod reading;
@@ -114,4 +116,18 @@ impl LinkInfo {
         self.reserved_number_items = Field::NUMBER_ITEMS_RESERVED.widest as u16;
         self
     }
+}
+
+// Whether a link of this type has a URI.
+pub fn has_uri(link_type: u16) -> bool
+    ensures { λ r. ⌜ r ≡ uriDue «link_type» ⌝ }
+{
+    if link_type == 0 { true } else { link_type == 2 }
+}
+
+// Whether a link of this type has a locator.
+pub fn has_locator(link_type: u16) -> bool
+    ensures { λ r. ⌜ r ≡ locatorDue «link_type» ⌝ }
+{
+    if link_type == 1 { true } else { link_type == 2 }
 }

@@ -8,11 +8,11 @@ use native.Mathlib.Omega.{arith}
 use lib.Dec.{eqb}
 use lib.ListN.{length, length-append}
 use Rattle.wire.specs.Choice.{pick, bit}
-use Rattle.wire.specs.Fields.{startDate, locatorReserved, tripletId, inlineReserved}
+use Rattle.field.specs.Fields.{startDate, locatorReserved, tripletId, inlineReserved, low}
 use Rattle.wire.specs.Numbers.{word16, be16}
 use Rattle.wire.proofs.Words.{word16-back}
 use Rattle.locator.specs.Syntax.{headLength, tripletLength, inlineLength, typeOf, isInline, lastBits, headOf, identifierBytes, windowsBytes, locatorBytes, serviceLength, identifierLength, windowsLength, locatorLength, WindowsFit, Narrow, areHere, areDue, Ruled, Fits, locatorOf}
-use Rattle.locator.specs.Reading.{low, typeIn, reliable, inline, serviceEnd, tailLength, identifierAt, windowsAt, partsAt, locatorAt, sizeAt, readLocator}
+use Rattle.locator.specs.Reading.{typeIn, reliable, inline, serviceEnd, tailLength, identifierAt, windowsAt, partsAt, locatorAt, sizeAt, readLocator}
 use Rattle.locator.specs.declared.DvbBinaryLocator.{DvbBinaryLocator}
 use Rattle.locator.specs.declared.DvbLocatorService.{DvbLocatorService}
 use Rattle.locator.specs.declared.DvbLocatorService.the-variants.{Triplet, Full}

@@ -3,8 +3,8 @@
 use Prim.Native.Nat.{ℕ, _≤_}
 use mathlib.Core.Path.{_≡_, refl}
 use mathlib.Core.Bool.{Bool, true, false, xor}
-use Rattle.wire.specs.Fields.{startDate, locatorReserved, tripletId, inlineReserved, earlyStart, lateEnd, checkField}
-use Rattle.wire.specs.declared.field.Field.{Field}
+use Rattle.field.specs.Fields.{startDate, locatorReserved, tripletId, inlineReserved, earlyStart, lateEnd, checkField}
+use Rattle.field.specs.declared.Field.{Field}
 use Rattle.wire.specs.declared.verdict.Verdict.the-variants.{Fine}
 use Rattle.wire.proofs.Verdicts.{then-fine, fine-then, fine-row, row-fine, passed-ltb, pass-ltb}
 use Rattle.locator.specs.Syntax.{ServiceFits, WindowsFit, Narrow, areHere, areDue, Ruled, Carried, Fits}

@@ -12,13 +12,13 @@ use lib.ListN.{length, take, getD}
 use lib.Seq.{take-add}
 use borrow.Author.Tests.{eqb-true, eqb-false}
 use Rattle.wire.specs.Choice.{bit}
-use Rattle.wire.specs.Fields.{tripletId}
+use Rattle.field.specs.Fields.{tripletId, low}
 use Rattle.wire.specs.Lists.{Bytes, part, firsts}
 use Rattle.wire.specs.Numbers.{bytes16, be16}
 use Rattle.wire.proofs.Parts.{bytes-at, firsts-part}
 use Rattle.wire.proofs.Words.{word16-high, word16-low}
 use Rattle.locator.specs.Syntax.{timesLength, typeOf, isInline, lastBits, headOf, serviceBytes, identifierBytes, windowsBytes, locatorBytes, ServiceFits, WindowsFit, areHere, areDue, ServiceCarried, IdentifierCarried, Fits}
-use Rattle.locator.specs.Reading.{low, typeIn, reliable, inline, serviceEnd, tailLength, serviceAt, identifierAt, windowsAt, locatorAt, sizeAt, locatorVerdict, readLocator}
+use Rattle.locator.specs.Reading.{typeIn, reliable, inline, serviceEnd, tailLength, serviceAt, identifierAt, windowsAt, locatorAt, sizeAt, locatorVerdict, readLocator}
 use Rattle.wire.specs.declared.verdict.Verdict.the-variants.{Fine}
 use Rattle.locator.specs.declared.DvbBinaryLocator.{DvbBinaryLocator}
 use Rattle.locator.specs.declared.DvbLocatorService.{DvbLocatorService}

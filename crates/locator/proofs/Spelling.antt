@@ -5,7 +5,7 @@ use mathlib.Core.Bool.{Bool, true, false}
 use mathlib.Core.List.{[], _∷_, _++_}
 use native.Mathlib.Omega.{arith}
 use Rattle.wire.specs.Choice.{bit}
-use Rattle.wire.specs.Fields.{inlineReserved}
+use Rattle.field.specs.Fields.{inlineReserved}
 use Rattle.wire.specs.Lists.{Bytes}
 use Rattle.wire.specs.Numbers.{bytes16}
 use Rattle.wire.proofs.Parts.{bytes-append}

@@ -2,7 +2,7 @@
 -- link has checks of its own between the two.
 -- Assumes nothing.
 use mathlib.Core.Bool.{xor}
-use Rattle.wire.specs.Fields.{startDate, locatorReserved, tripletId, inlineReserved, earlyStart, lateEnd, checkField}
+use Rattle.field.specs.Fields.{startDate, locatorReserved, tripletId, inlineReserved, earlyStart, lateEnd, checkField}
 use Rattle.wire.specs.Verdict.{refuse, _▷_}
 use Rattle.wire.specs.declared.verdict.Verdict.{Verdict}
 use Rattle.wire.specs.declared.verdict.Verdict.the-variants.{Fine}

@@ -8,9 +8,8 @@ use lib.ListN.{length, getD}
 use lib.Dec.{eqb, ltb}
 use Rattle.wire.specs.Choice.{pick}
 use Rattle.wire.specs.Numbers.{be16}
-use Rattle.wire.specs.Fields.{startDate, locatorReserved, tripletId, inlineReserved, earlyStart, lateEnd}
+use Rattle.field.specs.Fields.{startDate, locatorReserved, tripletId, inlineReserved, earlyStart, lateEnd, low}
 use Rattle.wire.specs.Verdict.{refuse, _▷_}
-use Rattle.wire.specs.declared.field.Field.{Field}
 use Rattle.wire.specs.declared.verdict.Verdict.{Verdict}
 use Rattle.wire.specs.declared.verdict.Verdict.the-variants.{Fine, Refused}
 use Rattle.locator.specs.Syntax.{headLength, tripletLength, inlineLength, timesLength, idLength, componentLength, windowLength}
@@ -25,10 +24,6 @@ use Rattle.locator.specs.declared.reading.LocatorRead.{LocatorRead}
 use Rattle.locator.specs.declared.reading.LocatorRead.the-variants.{Got, Refused as NotRead}
 
 -- ---- what the first 16 bits settle
-
--- the lowest bits of a number, as many as the field has
-abbrev pub low : Field → ℕ → ℕ
-low f n = n % (f .widest + 1)
 
 -- identifier_type, scheduled_time_reliability, inline_service
 abbrev pub typeIn : ℕ → ℕ

@@ -7,7 +7,7 @@ use mathlib.Core.Bool.{Bool, true, false}
 use mathlib.Core.List.{List, [], _∷_, _++_}
 use Rattle.wire.specs.Choice.{bit}
 use Rattle.wire.specs.Numbers.{bytes16}
-use Rattle.wire.specs.Fields.{startDate, locatorReserved, tripletId, inlineReserved, earlyStart, lateEnd}
+use Rattle.field.specs.Fields.{startDate, locatorReserved, tripletId, inlineReserved, earlyStart, lateEnd}
 use Rattle.locator.specs.declared.DvbBinaryLocator.{DvbBinaryLocator}
 use Rattle.locator.specs.declared.DvbLocatorService.{DvbLocatorService}
 use Rattle.locator.specs.declared.DvbLocatorService.the-variants.{Triplet, Full}

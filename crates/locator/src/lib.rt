@@ -1,12 +1,11 @@
 // The DVB binary locator (ETSI TS 102 323, 7.3.2.3.3, Table 31): what it holds, how long its parts are, and how one is
-// made. Reading, the checks before writing, and writing have a module each.
+// made; in a module each, what reading and writing answer.
 ghost use mathlib.Core.Path.{_≡_};
 ghost use Prim.Native.Nat.{_+_, _≤_};
 ghost use Rattle.locator.specs.Syntax.{inlineLength, idLength, componentLength, windowLength};
 ghost use Rattle.locator.specs.Syntax.{newLocator, fullService, serviceLength, identifierLength, windowsLength, locatorLength};
-use wire::field::Field;
+use field::Field;
 
-pub mod checks;
 pub mod reading;
 pub mod writing;
 

@@ -234,7 +234,7 @@ fn put_links(out: &mut [u8], n: usize, s: &[u8], count: usize) -> usize {
     let mut at = FIRST_ENTRY;
     let mut number: usize = 0;
     while number < count {
-        let entry = reader::links::read_entry(s, at);
+        let entry = reader::entry::read_entry(s, at);
         let link = entry.link;
         n = put_link(out, n, s, link);
         at = entry.next;

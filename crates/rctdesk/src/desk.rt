@@ -16,7 +16,7 @@ use crate::record::read_range;
 use crate::scan::Scan;
 use crate::word;
 use crate::word::Word;
-use editor::Edited;
+use edit::Edited;
 use link::reading::ItemRead;
 use reader::RctSection;
 use wire::verdict::Verdict;
@@ -140,7 +140,7 @@ fn link(line: &[u8], s: Scan, b: &[u8], out: &mut [u8], n: usize) -> usize {
     if !number.is_fine() {
         return put_fault(out, n, number);
     }
-    let read = reader::links::read_link(b, number.value as usize);
+    let read = entries::read_link(b, number.value as usize);
     let verdict = read.verdict;
     let link = read.link;
     match verdict {
@@ -158,7 +158,7 @@ fn item(line: &[u8], s: Scan, b: &[u8], out: &mut [u8], n: usize) -> usize {
     if !item.is_fine() {
         return put_fault(out, n, item);
     }
-    match reader::links::read_item(b, number.value as usize, item.value as usize) {
+    match entries::read_item(b, number.value as usize, item.value as usize) {
         ItemRead::Refused(refusal) => put_refusal(out, n, refusal),
         ItemRead::Got(got) => {
             let n = put_word(out, n, word::OK);
@@ -195,7 +195,7 @@ fn make(line: &[u8], s: Scan, b: &mut [u8], text: &[u8], out: &mut [u8], n: usiz
     if !s.is_fine() {
         return put_fault(out, n, s);
     }
-    let edited = editor::making::make(b, header, reserved.value, text, descriptors);
+    let edited = maker::make(b, header, reserved.value, text, descriptors);
     put_edited(out, n, &b[..], edited)
 }
 

@@ -70,7 +70,7 @@ fn show_links(s: &[u8], count: usize) {
     let mut at = FIRST_ENTRY;
     let mut number: usize = 0;
     while number < count {
-        let entry = reader::links::read_entry(s, at);
+        let entry = reader::entry::read_entry(s, at);
         let link = entry.link;
         show_link(number, link);
         at = entry.next;

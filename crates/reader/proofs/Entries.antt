@@ -8,22 +8,21 @@ use mathlib.Core.Bool.{Bool, true, false, not}
 use mathlib.Core.List.{List}
 use lib.Dec.{eqb, ltb}
 use lib.ListN.{take, drop}
-use borrow.Author.Tests.{lt-ltb, le-ltb, ltb-true, ltb-false, eq-eqb, eqb-true, eqb-false, ne-eqb}
+use borrow.Author.Tests.{lt-ltb, le-ltb, ltb-true, ltb-false, eqb-true, eqb-false, ne-eqb}
 use Rattle.wire.specs.Choice.{pick}
 use Rattle.wire.specs.Lengths.{lengthAt, blockEnd, blockVerdict}
 use Rattle.wire.specs.Verdict.{bad, refuse, _▷_}
 use Rattle.wire.specs.declared.verdict.Refusal.{Refusal}
 use Rattle.wire.specs.declared.verdict.Verdict.{Verdict}
 use Rattle.wire.specs.declared.verdict.Verdict.the-variants.{Fine, Refused}
-use Rattle.wire.proofs.Blocks.{block-long, block-passed}
-use Rattle.wire.proofs.Verdicts.{then-fine, go-on, stop, refused-then, then-assoc, pass-eqb}
+use Rattle.wire.proofs.Blocks.{block-passed}
+use Rattle.wire.proofs.Verdicts.{then-fine, go-on, refused-then, then-assoc, pass-eqb}
 use Rattle.link.specs.Reading.{bodyVerdict}
 use Rattle.frame.specs.Frame.{payloadEnd, opened}
 use Rattle.frame.proofs.Opening.{Opened, opened-fine}
 use Rattle.section.specs.Syntax.{headLength, limit, rct}
-use Rattle.section.specs.Reading.{bodyIn, after, countAt, loopPlace, linksVerdict, loopVerdict, reading, stored, computed, checked}
-use Rattle.reader.specs.Places.{entryVerdict, stepTo, located}
-use Rattle.reader.specs.declared.Located.{Located}
+use Rattle.section.specs.Reading.{bodyIn, after, countAt, linkPlace, loopPlace, linksVerdict, loopVerdict, reading, stored, computed, checked}
+use Rattle.reader.specs.Places.{entryVerdict, stepTo, linkEndSpot, located}
 use Rattle.reader.specs.declared.Located.the-variants as spot
 use Rattle.reader.specs.declared.places.Step.the-variants as step
 
@@ -47,30 +46,34 @@ pub at-step : (v : Verdict) (p q : ℕ) → v ≡ Fine → p ≡ q → step.At q
 unfolding stepTo
 at-step v p q e f = rw (e, f)
 
-pub located-at : (v : Verdict) (k k′ l l′ : ℕ) → located v k l ≡ spot.At k′ l′ → (v ≡ Fine) × ((k ≡ k′) × (l ≡ l′))
-unfolding located
-located-at Fine k k′ l l′ e = (refl, ((cc), (cc)))
-located-at (Refused r) k k′ l l′ e = let z : _≡_ {A = ℕ} 0 1 = cc in absurd (omega arith)
+-- the places a, b and c that a reading of that verdict found
+pub record Places (v : Verdict) (k e l a b c : ℕ) : Type 0 where
+  pub fine : v ≡ Fine
+  pub link-at : k ≡ a
+  pub link-end : e ≡ b
+  pub loop-at : l ≡ c
 
-pub located-stop : (v : Verdict) (k l : ℕ) (r : Refusal) → located v k l ≡ spot.Refused r → v ≡ Refused r
+pub located-at : (v : Verdict) (k e l a b c : ℕ) → located v k e l ≡ spot.At a b c → Places v k e l a b c
 unfolding located
-located-stop Fine k l r e = let z : _≡_ {A = ℕ} 0 1 = cc in absurd (omega arith)
-located-stop (Refused q) k l r e = cc
+located-at Fine k e l a b c q = record { fine = refl; link-at = cc; link-end = cc; loop-at = cc }
+located-at (Refused r) k e l a b c q = let z : _≡_ {A = ℕ} 0 1 = cc in absurd (omega arith)
 
-pub at-located : (v : Verdict) (k k′ l l′ : ℕ) → v ≡ Fine → k ≡ k′ → l ≡ l′ → spot.At k′ l′ ≡ located v k l
+pub located-stop : (v : Verdict) (k e l : ℕ) (r : Refusal) → located v k e l ≡ spot.Refused r → v ≡ Refused r
 unfolding located
-at-located v k k′ l l′ e p q = rw (e, p, q)
+located-stop Fine k e l r q = let z : _≡_ {A = ℕ} 0 1 = cc in absurd (omega arith)
+located-stop (Refused r′) k e l r q = cc
 
-pub stop-located : (v : Verdict) (k l : ℕ) (r : Refusal) → v ≡ Refused r → spot.Refused r ≡ located v k l
+pub at-located : (v : Verdict) (k e l a b c : ℕ) → v ≡ Fine → k ≡ a → e ≡ b → l ≡ c → spot.At a b c ≡ located v k e l
 unfolding located
-stop-located v k l r e = rw e
+at-located v k e l a b c f p q r = rw (f, p, q, r)
+
+pub stop-located : (v : Verdict) (k e l : ℕ) (r : Refusal) → v ≡ Refused r → spot.Refused r ≡ located v k e l
+unfolding located
+stop-located v k e l r q = rw q
 
 -- ---- one entry
 
 module _ (xs : List ℕ) (e p : ℕ) where
-  pub length-5 : (t : ℕ) → t ≡ blockEnd xs p → p + 2 ≤ e → e < t → step.Stop (record { number = 5; first = t - (p + 2); second = e - (p + 2) }) ≡ stepTo (blockVerdict 4 5 xs e p) (blockEnd xs p)
-  length-5 t q h k = let d : t - (p + 2) ≡ lengthAt xs p = omega arith in rw d (stop-step _ _ _ (block-long 4 5 0 xs e p h (omega arith)))
-
   -- what a length field that is passed leaves known of the place t behind its entry
   pub record Passed (t : ℕ) : Type 0 where
     pub fine : blockVerdict 4 5 xs e p ≡ Fine
@@ -107,6 +110,10 @@ after-suc : (i : ℕ) (xs : List ℕ) (p : ℕ) → after (suc i) xs p ≡ block
 after-suc zero xs p = refl
 after-suc (suc i) xs p = after-suc i xs (blockEnd xs p)
 
+-- the place behind link k is that of the next
+pub end-is-next : (xs : List ℕ) (k : ℕ) → linkEndSpot xs k ≡ pick (ltb k (countAt xs)) (linkPlace xs (suc k)) 0
+end-is-next xs k = rw (after-suc k xs headLength)
+
 pub after-next : (i : ℕ) (xs : List ℕ) (p : ℕ) → after (i + 1) xs p ≡ blockEnd xs (after i xs p)
 after-next i xs p = rw add-one (after-suc i xs p)
 
@@ -123,9 +130,9 @@ module _ (xs : List ℕ) (e n i p : ℕ) (h : i < n) where
   pub turn-stop : (r : Refusal) → entryVerdict xs e p ≡ Refused r → linksVerdict (n - i) xs e p ≡ Refused r
   turn-stop r v = turn ∙ refused-then _ _ r v
 
--- what is remembered of link k: its place once it was passed
-spot-on : (k i : ℕ) (place : ℕ → ℕ) → pick (eqb i k) (place i) (pick (ltb k i) (place k) 0) ≡ pick (ltb k (i + 1)) (place k) 0
-spot-on k i place = go (eqb i k) (ltb k i) refl refl
+-- what is remembered of link k, its place or that behind it, once it was passed
+pub kept : (place : ℕ → ℕ) (k i p found : ℕ) → p ≡ place i → found ≡ pick (ltb k i) (place k) 0 → pick (eqb i k) p found ≡ pick (ltb k (i + 1)) (place k) 0
+kept place k i p found at was = rw (at, was) (go (eqb i k) (ltb k i) refl refl)
   where
     go : (b c : Bool) → eqb i k ≡ b → ltb k i ≡ c → pick b (place i) (pick c (place k) 0) ≡ pick (ltb k (i + 1)) (place k) 0
     go true c e f = let q : i ≡ k = eqb-true i k e in rw (lt-ltb k (i + 1) (omega arith)) (ap place q)
@@ -134,10 +141,6 @@ spot-on k i place = go (eqb i k) (ltb k i) refl refl
       where
         less : i < k
         less = omega (arith, ltb-false k i f, eqb-false i k e)
-
-pub kept : (xs : List ℕ) (k i p found : ℕ) → p ≡ after i xs headLength → found ≡ pick (ltb k i) (after k xs headLength) 0
-    → pick (eqb i k) p found ≡ pick (ltb k (i + 1)) (after k xs headLength) 0
-kept xs k i p found e f = rw (e, f) (spot-on k i (λ j. after j xs headLength))
 
 pub walk-done : (xs : List ℕ) (e n i p : ℕ) → n ≤ i → linksVerdict (n - i) xs e p ≡ Fine
 walk-done xs e n i p h = let z : n - i ≡ 0 = omega arith in rw z

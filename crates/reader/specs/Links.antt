@@ -16,7 +16,7 @@ use Rattle.frame.specs.Frame.{payloadEnd, opened}
 use Rattle.section.specs.Syntax.{rct}
 use Rattle.section.specs.Reading.{bodyIn, countAt, linkPlace, plain}
 use Rattle.reader.specs.Places.{entryVerdict}
-use Rattle.reader.specs.declared.links.EntryRead.{EntryRead}
+use Rattle.reader.specs.declared.entry.EntryRead.{EntryRead}
 
 -- the record of the entry at p, its ranges counted from the section's first byte
 abbrev pub entryInfo : List ℕ → ℕ → LinkInfo

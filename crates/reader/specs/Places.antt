@@ -4,7 +4,7 @@ use Prim.Native.Nat.{ℕ}
 use mathlib.Core.List.{List}
 use lib.Dec.{ltb}
 use Rattle.wire.specs.Choice.{pick}
-use Rattle.wire.specs.Lengths.{blockVerdict}
+use Rattle.wire.specs.Lengths.{blockEnd, blockVerdict}
 use Rattle.wire.specs.Verdict.{_▷_}
 use Rattle.wire.specs.declared.verdict.Verdict.{Verdict}
 use Rattle.wire.specs.declared.verdict.Verdict.the-variants.{Fine, Refused}
@@ -28,7 +28,11 @@ stepTo (Refused r) p = step.Stop r
 abbrev pub linkSpot : List ℕ → ℕ → ℕ
 linkSpot xs k = pick (ltb k (countAt xs)) (linkPlace xs k) 0
 
--- the places of a link and of the loop, or the refusal
-unfoldable pub located : Verdict → ℕ → ℕ → Located
-located Fine k l = spot.At k l
-located (Refused r) k l = spot.Refused r
+-- the place behind link k, and 0 where there is no such link
+abbrev pub linkEndSpot : List ℕ → ℕ → ℕ
+linkEndSpot xs k = pick (ltb k (countAt xs)) (blockEnd xs (linkPlace xs k)) 0
+
+-- the places of a link, behind it and of the loop, or the refusal
+unfoldable pub located : Verdict → ℕ → ℕ → ℕ → Located
+located Fine k e l = spot.At k e l
+located (Refused r) k e l = spot.Refused r

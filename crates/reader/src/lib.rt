@@ -1,19 +1,19 @@
-// Reading the related content section: the whole, by plain and by checked reading, and its links and items by number.
+// Reading the related content section: the whole, by plain and by checked reading, and the places of its links.
 ghost use mathlib.Core.Path.{_≡_};
 ghost use Prim.Native.Nat.{_+_, _≤_};
 ghost use lib.ListN.{length};
 ghost use Rattle.wire.specs.declared.verdict.Verdict.the-variants.{Fine, Refused};
 ghost use Rattle.section.specs.Reading.{headerAt, plain, checked, loopPlace};
-ghost use Rattle.reader.specs.Places.{located, linkSpot};
+ghost use Rattle.reader.specs.Places.{located, linkSpot, linkEndSpot};
 ghost use Rattle.reader.specs.Sections.{noSection, sectionRead};
+use field::Field;
 use link::Range;
 use section::RctHeader;
 use wire::lengths::LengthField;
 use wire::verdict::Refusal;
 use wire::verdict::Verdict;
 
-pub mod links;
-pub mod parts;
+pub mod entry;
 mod places;
 
 // A section that was read, or a refusal beside zeros.
@@ -26,27 +26,46 @@ pub struct RctSection {
     pub descriptors: Range,
 }
 
-// Where a link's entry stands, 0 if there is no such link, and where the descriptor loop stands.
+// Where a link's entry stands and where it ends, both 0 if there is no such link, and where the descriptor loop stands.
 pub enum Located {
-    At { link_at: usize, loop_at: usize },
+    At {
+        link_at: usize,
+        link_end: usize,
+        loop_at: usize,
+    },
     Refused(Refusal),
 }
 
-// The checked reading, then the places of a link by number and of the descriptor loop.
+// The places of a link by number and of the descriptor loop, by the checked reading.
 pub fn locate(s: &[u8], number: usize) -> Located
-    ensures { λ r. ⌜ r ≡ located (checked (now (s .entry))) (linkSpot (now (s .entry)) number) (loopPlace (now (s .entry))) ⌝ }
+    ensures { λ r. ⌜ r ≡ located (checked (now (s .entry))) (linkSpot (now (s .entry)) number) (linkEndSpot (now (s .entry)) number) (loopPlace (now (s .entry))) ⌝ }
 {
     let read = places::read_places(s, RctHeader::limit(), number);
     match read {
-        Located::At { link_at, loop_at } => {
+        Located::At {
+            link_at,
+            link_end,
+            loop_at,
+        } => {
             let v = places::crc_verdict(s);
             match v {
-                Verdict::Fine => Located::At { link_at, loop_at },
+                Verdict::Fine => Located::At {
+                    link_at,
+                    link_end,
+                    loop_at,
+                },
                 Verdict::Refused(r) => Located::Refused(r),
             }
         }
         Located::Refused(r) => Located::Refused(r),
     }
+}
+
+// The same places by the plain reading.
+pub fn find(s: &[u8], number: usize) -> Located
+    ensures { λ r. ⌜ r ≡ located (plain (now (s .entry))) (linkSpot (now (s .entry)) number) (linkEndSpot (now (s .entry)) number) (loopPlace (now (s .entry))) ⌝ }
+{
+    places::read_places(s, LengthField::LONGEST, number)
 }
 
 fn header_at(s: &[u8]) -> RctHeader
@@ -58,10 +77,10 @@ fn header_at(s: &[u8]) -> RctHeader
     RctHeader {
         section_syntax_indicator: first / 8 == 1,
         table_id_extension_flag: first / 4 % 2 == 1,
-        reserved_b1: (first % 4) as u16,
+        reserved_b1: Field::SECTION_RESERVED.low(first as u16),
         service_id: wire::be16(s[3], s[4]),
-        reserved_b5: (version / 64) as u16,
-        version_number: (version / 2 % 32) as u16,
+        reserved_b5: Field::VERSION_RESERVED.low((version / 64) as u16),
+        version_number: Field::VERSION_NUMBER.low((version / 2) as u16),
         current_next_indicator: version % 2 == 1,
         section_number: s[6],
         last_section_number: s[7],
@@ -122,10 +141,11 @@ fn no_section(refusal: Refusal) -> RctSection
 pub fn read_section(s: &[u8]) -> RctSection
     ensures { λ r. ⌜ r ≡ sectionRead (plain (now (s .entry))) (now (s .entry)) ⌝ }
 {
-    let read = places::read_places(s, LengthField::LONGEST, 0);
+    let read = find(s, 0);
     match read {
         Located::At {
             link_at: _,
+            link_end: _,
             loop_at,
         } => section_at(s, loop_at),
         Located::Refused(r) => no_section(r),
@@ -140,6 +160,7 @@ pub fn check_section(s: &[u8]) -> RctSection
     match read {
         Located::At {
             link_at: _,
+            link_end: _,
             loop_at,
         } => section_at(s, loop_at),
         Located::Refused(r) => no_section(r),

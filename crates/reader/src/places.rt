@@ -10,7 +10,7 @@ ghost use Rattle.wire.specs.Verdict.{refuse};
 ghost use Rattle.frame.specs.Frame.{payloadEnd, totalOf, opened};
 ghost use Rattle.section.specs.Syntax.{headLength, rct};
 ghost use Rattle.section.specs.Reading.{after, linksVerdict, loopVerdict, loopPlace, reading, stored, computed};
-ghost use Rattle.reader.specs.Places.{entryVerdict, stepTo, located, linkSpot};
+ghost use Rattle.reader.specs.Places.{entryVerdict, stepTo, located, linkSpot, linkEndSpot};
 use crate::Located;
 use section::RctHeader;
 use wire::lengths::LengthField;
@@ -21,15 +21,6 @@ use wire::verdict::Verdict;
 pub(crate) enum Step {
     At(usize),
     Stop(Refusal),
-}
-
-// The place behind the entry at `p`, as its length says.
-pub(crate) fn entry_end(s: &[u8], p: usize) -> usize
-    requires { ⌜ (p + 2 ≤ length (now s)) × (p ≤ 65535) ⌝ }
-    ensures { λ r. ⌜ (r ≡ blockEnd (now (s .entry)) p) × (r ≤ 69632) ⌝ }
-{
-    let field = LengthField::of_bytes(s[p], s[p + 1]);
-    p + 2 + field.length
 }
 
 // Over the entry at `p` of a payload that ends at `e`, its body not looked at: document 01's 4 and 5.
@@ -45,11 +36,12 @@ pub(crate) fn past_length(s: &[u8], e: usize, p: usize) -> Step
             second: e,
         });
     }
-    let next = entry_end(s, p);
+    let field = LengthField::of_bytes(s[p], s[p + 1]);
+    let next = start + field.length;
     if e < next {
         return Step::Stop(Refusal {
             number: 5,
-            first: next - start,
+            first: field.length,
             second: e - start,
         });
     }
@@ -65,7 +57,7 @@ fn past_entry(s: &[u8], e: usize, p: usize) -> Step
     match end {
         Step::At(next) => {
             let start = p + 2;
-            let v = link::reading::check_body(&s[start..next]);
+            let v = link_reader::check_body(&s[start..next]);
             match v {
                 Verdict::Fine => Step::At(next),
                 Verdict::Refused(r) => Step::Stop(r),
@@ -82,19 +74,21 @@ fn keep(i: usize, number: usize, p: usize, found: usize) -> usize
     if i == number { p } else { found }
 }
 
-// Over `n` links, up to `e`: the place of link `number`, 0 if there is none, and the place behind them all.
+// Over `n` links, up to `e`: where link `number` stands and ends, both 0 if there is none, and the place behind them all.
 fn past_links(s: &[u8], n: usize, e: usize, number: usize) -> Located
     requires { ⌜ (headLength ≤ e) × ((e ≤ length (now s)) × (e ≤ 65535)) ⌝ }
-    ensures { λ r. ⌜ r ≡ located (linksVerdict n (now (s .entry)) e headLength) (pick (ltb number n) (after number (now (s .entry)) headLength) 0) (after n (now (s .entry)) headLength) ⌝ }
+    ensures { λ r. ⌜ r ≡ located (linksVerdict n (now (s .entry)) e headLength) (pick (ltb number n) (after number (now (s .entry)) headLength) 0) (pick (ltb number n) (blockEnd (now (s .entry)) (after number (now (s .entry)) headLength)) 0) (after n (now (s .entry)) headLength) ⌝ }
 {
     let mut p = RctHeader::head();
-    let mut found: usize = 0;
+    let mut link_at: usize = 0;
+    let mut link_end: usize = 0;
     let mut i: usize = 0;
     while i < n {
         let step = past_entry(s, e, p);
         match step {
             Step::At(next) => {
-                found = keep(i, number, p, found);
+                link_at = keep(i, number, p, link_at);
+                link_end = keep(i, number, next, link_end);
                 p = next;
                 i += 1;
             }
@@ -104,7 +98,8 @@ fn past_links(s: &[u8], n: usize, e: usize, number: usize) -> Located
         }
     }
     Located::At {
-        link_at: found,
+        link_at,
+        link_end,
         loop_at: p,
     }
 }
@@ -159,17 +154,25 @@ pub(crate) fn past_front(s: &[u8], most: usize) -> Step
 
 // The whole section, of a section_length up to `most`.
 pub(crate) fn read_places(s: &[u8], most: usize, number: usize) -> Located
-    ensures { λ r. ⌜ r ≡ located (reading most (now (s .entry))) (linkSpot (now (s .entry)) number) (loopPlace (now (s .entry))) ⌝ }
+    ensures { λ r. ⌜ r ≡ located (reading most (now (s .entry))) (linkSpot (now (s .entry)) number) (linkEndSpot (now (s .entry)) number) (loopPlace (now (s .entry))) ⌝ }
 {
     let front = past_front(s, most);
     match front {
         Step::At(e) => {
             let links = past_links(s, wire::wide(s[10]), e, number);
             match links {
-                Located::At { link_at, loop_at } => {
+                Located::At {
+                    link_at,
+                    link_end,
+                    loop_at,
+                } => {
                     let v = loop_verdict(s, e, loop_at);
                     match v {
-                        Verdict::Fine => Located::At { link_at, loop_at },
+                        Verdict::Fine => Located::At {
+                            link_at,
+                            link_end,
+                            loop_at,
+                        },
                         Verdict::Refused(r) => Located::Refused(r),
                     }
                 }

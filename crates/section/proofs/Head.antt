@@ -12,7 +12,7 @@ use Rattle.wire.specs.Choice.{bit}
 use Rattle.wire.specs.Lists.{Bytes, firsts}
 use Rattle.wire.specs.Numbers.{be16}
 use Rattle.wire.specs.Lengths.{longest, lengthBytes, besideAt}
-use Rattle.wire.specs.Fields.{versionNumber}
+use Rattle.field.specs.Fields.{low, sectionReserved, versionNumber, versionReserved}
 use Rattle.wire.proofs.Parts.{bytes-at, firsts-part}
 use Rattle.wire.proofs.Words.{word16-back, word16-high, word16-low}
 use Rattle.frame.specs.Frame.{declared}
@@ -51,7 +51,9 @@ head-rebuild xs b z l = bytewise ∙ firsts-part headLength xs 0 (omega arith)
     p2 = omega (arith, bytes-at xs 2 b)
 
     p5 : versionByte (headerAt xs) ≡ getD xs 5 0
-    p5 = rw (bit-rebuild (getD xs 5 0 % 2) (omega arith)) (omega arith)
+    p5 =
+        let highest : low versionReserved (getD xs 5 0 / 64) ≡ getD xs 5 0 / 64 = omega (arith, bytes-at xs 5 b) in
+        rw (highest, bit-rebuild (getD xs 5 0 % 2) (omega arith)) (omega arith)
 
     hi : (p : ℕ) → be16 xs p / 256 ≡ getD xs p 0
     hi p = word16-high (getD xs p 0) (getD xs (p + 1) 0) (bytes-at xs (p + 1) b)
@@ -135,13 +137,13 @@ head-back h len count ys f l =
     extension : eqb (first / 4 % 2) 1 ≡ h .«table_id_extension_flag»
     extension = bit-back (h .«table_id_extension_flag») (first / 4 % 2) (omega (arith, nibble, f .reserved1, bit-small (h .«table_id_extension_flag»)))
 
-    reserved1 : first % 4 ≡ h .«reserved_b1»
+    reserved1 : low sectionReserved first ≡ h .«reserved_b1»
     reserved1 = omega (arith, nibble, f .reserved1)
 
-    reserved5 : versionByte h / 64 ≡ h .«reserved_b5»
-    reserved5 = omega (arith, f .version, bit-small (h .«current_next_indicator»))
+    reserved5 : low versionReserved (versionByte h / 64) ≡ h .«reserved_b5»
+    reserved5 = omega (arith, f .version, f .reserved5, bit-small (h .«current_next_indicator»))
 
-    version : versionByte h / 2 % 32 ≡ h .«version_number»
+    version : low versionNumber (versionByte h / 2) ≡ h .«version_number»
     version = omega (arith, f .version, bit-small (h .«current_next_indicator»))
 
     current : eqb (versionByte h % 2) 1 ≡ h .«current_next_indicator»

@@ -7,6 +7,7 @@ use lib.Dec.{ltb, eqb}
 use lib.ListN.{getD, take}
 use Rattle.wire.specs.Lists.{part}
 use Rattle.wire.specs.Numbers.{be16, be32}
+use Rattle.field.specs.Fields.{low, sectionReserved, versionNumber, versionReserved}
 use Rattle.wire.specs.Lengths.{longest, lengthAt, besideAt, blockAt, blockEnd, blockVerdict, lastVerdict}
 use Rattle.wire.specs.Verdict.{refuse, _▷_}
 use Rattle.wire.specs.declared.verdict.Verdict.{Verdict}
@@ -25,10 +26,10 @@ headerAt xs =
     record {
       «section_syntax_indicator» = eqb (besideAt xs 1 / 8) 1;
       «table_id_extension_flag» = eqb (besideAt xs 1 / 4 % 2) 1;
-      «reserved_b1» = besideAt xs 1 % 4;
+      «reserved_b1» = low sectionReserved (besideAt xs 1);
       «service_id» = be16 xs 3;
-      «reserved_b5» = getD xs 5 0 / 64;
-      «version_number» = getD xs 5 0 / 2 % 32;
+      «reserved_b5» = low versionReserved (getD xs 5 0 / 64);
+      «version_number» = low versionNumber (getD xs 5 0 / 2);
       «current_next_indicator» = eqb (getD xs 5 0 % 2) 1;
       «section_number» = getD xs 6 0;
       «last_section_number» = getD xs 7 0;

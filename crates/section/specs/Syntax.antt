@@ -7,7 +7,7 @@ use lib.ListN.{length}
 use Rattle.wire.specs.Choice.{bit}
 use Rattle.wire.specs.Numbers.{bytes16, bytes32}
 use Rattle.wire.specs.Lengths.{longest, lengthBytes, Block, BlockFits, blockBytes}
-use Rattle.wire.specs.Fields.{sectionReserved, versionNumber, versionReserved}
+use Rattle.field.specs.Fields.{sectionReserved, versionNumber, versionReserved}
 use Rattle.crc.specs.Crc.{crcOf}
 use Rattle.link.specs.Syntax.{Link, LinkFits, linkBody, entryOf}
 use Rattle.frame.specs.Frame.{uncounted, crcLength}

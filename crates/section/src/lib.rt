@@ -1,8 +1,8 @@
 // The related content section: its header, and the numbers that its table states.
 ghost use mathlib.Core.Path.{_≡_};
 ghost use Rattle.section.specs.Syntax.{headLength, limit, rct, newHeader};
+use field::Field;
 use frame::Table;
-use wire::field::Field;
 use wire::lengths::LengthField;
 
 // The fields before the links, the section's length and the number of links apart.

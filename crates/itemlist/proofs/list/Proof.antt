@@ -1,6 +1,6 @@
 -- `itemlist::list` is safe and ends: the measure is the number of steps that are left. Assumes nothing.
 use Prim.Native.Nat.{_+_, _-_}
-use Rattle.wire.specs.Fields.{numberItems}
+use Rattle.field.specs.Fields.{numberItems}
 use borrow.Author.Needs.{needs}
 use Rattle.itemlist.proofs.list.Statement.{statement}
 use Rattle.itemlist.proofs.list.Tie as tie

@@ -19,9 +19,9 @@ enum-known-read c = search needs
 section-at-requires : tie.Need-section-at-requires
 section-at-requires c κs =
     let s = c .before .before .before .before .before .args .s .now in
-    let g = located-at _ _ _ _ _ (sym (c .before .before .before .locate .ensures) ∙ c .before .read .given .1) in
-    let a = accepted limit s (bytes-known s (c .before .before .before .before .shared-slice-known .given)) (checked-reading s (g .0)) in
-    let q = g .1 .1 in
+    let g = located-at _ _ _ _ _ _ _ (sym (c .before .before .before .locate .ensures) ∙ c .before .read .given .1) in
+    let a = accepted limit s (bytes-known s (c .before .before .before .before .shared-slice-known .given)) (checked-reading s (g .fine)) in
+    let q = g .loop-at in
     (omega arith, (sym q, (omega arith, omega arith)))
 
 enum-known-read-2 : tie.Need-enum-known-read-2
@@ -32,12 +32,12 @@ no-section-requires c κs = search needs
 
 returns : tie.Need-returns
 returns c =
-    let g = located-at _ _ _ _ _ (sym (c .before .before .before .before .locate .ensures) ∙ c .before .before .read .given .1) in
-    rw (g .0) (c .section-at .ensures)
+    let g = located-at _ _ _ _ _ _ _ (sym (c .before .before .before .before .locate .ensures) ∙ c .before .before .read .given .1) in
+    rw (g .fine) (c .section-at .ensures)
 
 returns-2 : tie.Need-returns-2
 unfolding sectionRead
-returns-2 c = rw (located-stop _ _ _ _ (sym (c .before .before .before .before .locate .ensures) ∙ c .before .before .read2 .given .1)) (c .no-section .ensures)
+returns-2 c = rw (located-stop _ _ _ _ _ (sym (c .before .before .before .before .locate .ensures) ∙ c .before .before .read2 .given .1)) (c .no-section .ensures)
 
 pub check-section-spec : {M : Type 1} → statement M
 check-section-spec =

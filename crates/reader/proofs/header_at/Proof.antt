@@ -10,8 +10,11 @@ shared-slice-read-first c = search needs
 shared-slice-read-version : tie.Need-shared-slice-read-version
 shared-slice-read-version c = search needs
 
-cast-t12 : tie.Need-cast-t12
-cast-t12 c = search needs
+cast-low : tie.Need-cast-low
+cast-low c = omega (arith, c .before .before .shared-slice-known .given 1)
+
+low-requires : tie.Need-low-requires
+low-requires c κs = search needs
 
 shared-slice-read-be16 : tie.Need-shared-slice-read-be16
 shared-slice-read-be16 c = search needs
@@ -22,17 +25,23 @@ shared-slice-read-be16-2 c = search needs
 be16-requires : tie.Need-be16-requires
 be16-requires c κs = search needs
 
-cast-t19 : tie.Need-cast-t19
-cast-t19 c = omega (arith, c .before .before .before .before .before .shared-slice-known .given 5)
+cast-low-2 : tie.Need-cast-low-2
+cast-low-2 c = omega (arith, c .before .before .before .before .before .before .shared-slice-known .given 5)
 
-cast-t22 : tie.Need-cast-t22
-cast-t22 c = search needs
+low-requires-2 : tie.Need-low-requires-2
+low-requires-2 c κs = search needs
 
-shared-slice-read-t26 : tie.Need-shared-slice-read-t26
-shared-slice-read-t26 c = search needs
+cast-low-3 : tie.Need-cast-low-3
+cast-low-3 c = omega (arith, c .before .before .before .before .before .before .before .shared-slice-known .given 5)
 
-shared-slice-read-t28 : tie.Need-shared-slice-read-t28
-shared-slice-read-t28 c = search needs
+low-requires-3 : tie.Need-low-requires-3
+low-requires-3 c κs = search needs
+
+shared-slice-read-t30 : tie.Need-shared-slice-read-t30
+shared-slice-read-t30 c = search needs
+
+shared-slice-read-t32 : tie.Need-shared-slice-read-t32
+shared-slice-read-t32 c = search needs
 
 shared-slice-read-be16-3 : tie.Need-shared-slice-read-be16-3
 shared-slice-read-be16-3 c = search needs
@@ -44,7 +53,7 @@ be16-requires-2 : tie.Need-be16-requires-2
 be16-requires-2 c κs = search needs
 
 returns : tie.Need-returns
-returns c = rw (c .before .before .before .before .before .be16 .ensures, c .be162 .ensures)
+returns c = rw (c .before .before .before .before .before .before .before .before .before .before .low .ensures, c .before .before .before .before .before .before .before .be16 .ensures, c .before .before .before .before .before .before .low2 .ensures, c .before .before .before .before .before .low3 .ensures, c .be162 .ensures)
 
 pub header-at-spec : {M : Type 1} → statement M
 header-at-spec =
@@ -52,14 +61,17 @@ header-at-spec =
     (tie.spec
     shared-slice-read-first
     shared-slice-read-version
-    cast-t12
+    cast-low
+    low-requires
     shared-slice-read-be16
     shared-slice-read-be16-2
     be16-requires
-    cast-t19
-    cast-t22
-    shared-slice-read-t26
-    shared-slice-read-t28
+    cast-low-2
+    low-requires-2
+    cast-low-3
+    low-requires-3
+    shared-slice-read-t30
+    shared-slice-read-t32
     shared-slice-read-be16-3
     shared-slice-read-be16-4
     be16-requires-2

@@ -18,8 +18,8 @@ enum-known-read c = search needs
 
 crc-verdict-requires : tie.Need-crc-verdict-requires
 crc-verdict-requires c κs =
-    let g = located-at _ _ _ _ _ (sym (rw (c .before .before .before .before .limit .ensures) at (c .before .before .before .read-places .ensures)) ∙ c .before .read .given .1) in
-    let o = reading-opened limit (c .before .before .before .before .before .before .args .s .now) (g .0) in
+    let g = located-at _ _ _ _ _ _ _ (sym (rw (c .before .before .before .before .limit .ensures) at (c .before .before .before .read-places .ensures)) ∙ c .before .read .given .1) in
+    let o = reading-opened limit (c .before .before .before .before .before .before .args .s .now) (g .fine) in
     (omega arith, omega arith)
 
 enum-told : tie.Need-enum-told
@@ -33,16 +33,16 @@ enum-known-read-2 c = search needs
 
 returns : tie.Need-returns
 returns c =
-    let g = located-at _ _ _ _ _ (sym (rw (c .before .before .before .before .before .before .before .limit .ensures) at (c .before .before .before .before .before .before .read-places .ensures)) ∙ c .before .before .before .before .read .given .1) in
-    at-located _ _ _ _ _ (sym (checked-crc (c .before .before .before .before .before .before .before .before .before .args .s .now) (g .0)) ∙ sym (c .before .before .crc-verdict .ensures) ∙ c .enum-told .given .1) (g .1 .0) (g .1 .1)
+    let g = located-at _ _ _ _ _ _ _ (sym (rw (c .before .before .before .before .before .before .before .limit .ensures) at (c .before .before .before .before .before .before .read-places .ensures)) ∙ c .before .before .before .before .read .given .1) in
+    at-located _ _ _ _ _ _ _ (sym (checked-crc (c .before .before .before .before .before .before .before .before .before .args .s .now) (g .fine)) ∙ sym (c .before .before .crc-verdict .ensures) ∙ c .enum-told .given .1) (g .link-at) (g .link-end) (g .loop-at)
 
 returns-2 : tie.Need-returns-2
 returns-2 c =
-    let g = located-at _ _ _ _ _ (sym (rw (c .before .before .before .before .before .before .before .before .limit .ensures) at (c .before .before .before .before .before .before .before .read-places .ensures)) ∙ c .before .before .before .before .before .read .given .1) in
-    stop-located _ _ _ _ (sym (checked-crc (c .before .before .before .before .before .before .before .before .before .before .args .s .now) (g .0)) ∙ sym (c .before .before .before .crc-verdict .ensures) ∙ c .before .v .given .1)
+    let g = located-at _ _ _ _ _ _ _ (sym (rw (c .before .before .before .before .before .before .before .before .limit .ensures) at (c .before .before .before .before .before .before .before .read-places .ensures)) ∙ c .before .before .before .before .before .read .given .1) in
+    stop-located _ _ _ _ _ (sym (checked-crc (c .before .before .before .before .before .before .before .before .before .before .args .s .now) (g .fine)) ∙ sym (c .before .before .before .crc-verdict .ensures) ∙ c .before .v .given .1)
 
 returns-3 : tie.Need-returns-3
-returns-3 c = stop-located _ _ _ _ (checked-stop (c .before .before .before .before .before .before .args .s .now) _ (located-stop _ _ _ _ (sym (rw (c .before .before .before .before .limit .ensures) at (c .before .before .before .read-places .ensures)) ∙ c .before .read2 .given .1)))
+returns-3 c = stop-located _ _ _ _ _ (checked-stop (c .before .before .before .before .before .before .args .s .now) _ (located-stop _ _ _ _ _ (sym (rw (c .before .before .before .before .limit .ensures) at (c .before .before .before .read-places .ensures)) ∙ c .before .read2 .given .1)))
 
 pub locate-spec : {M : Type 1} → statement M
 locate-spec =

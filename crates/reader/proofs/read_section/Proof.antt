@@ -10,8 +10,8 @@ use borrow.Author.Needs.{needs}
 use Rattle.reader.proofs.read_section.Statement.{statement}
 use Rattle.reader.proofs.read_section.Tie as tie
 
-read-places-requires : tie.Need-read-places-requires
-read-places-requires c κs = search needs
+find-requires : tie.Need-find-requires
+find-requires c κs = search needs
 
 enum-known-read : tie.Need-enum-known-read
 enum-known-read c = search needs
@@ -19,9 +19,9 @@ enum-known-read c = search needs
 section-at-requires : tie.Need-section-at-requires
 section-at-requires c κs =
     let s = c .before .before .before .before .before .args .s .now in
-    let g = located-at _ _ _ _ _ (sym (c .before .before .before .read-places .ensures) ∙ c .before .read .given .1) in
-    let a = accepted longest s (bytes-known s (c .before .before .before .before .shared-slice-known .given)) (g .0) in
-    let q = g .1 .1 in
+    let g = located-at _ _ _ _ _ _ _ (sym (c .before .before .before .find .ensures) ∙ c .before .read .given .1) in
+    let a = accepted longest s (bytes-known s (c .before .before .before .before .shared-slice-known .given)) (g .fine) in
+    let q = g .loop-at in
     (omega arith, (sym q, (omega arith, omega arith)))
 
 enum-known-read-2 : tie.Need-enum-known-read-2
@@ -32,18 +32,18 @@ no-section-requires c κs = search needs
 
 returns : tie.Need-returns
 returns c =
-    let g = located-at _ _ _ _ _ (sym (c .before .before .before .before .read-places .ensures) ∙ c .before .before .read .given .1) in
-    rw (g .0) (c .section-at .ensures)
+    let g = located-at _ _ _ _ _ _ _ (sym (c .before .before .before .before .find .ensures) ∙ c .before .before .read .given .1) in
+    rw (g .fine) (c .section-at .ensures)
 
 returns-2 : tie.Need-returns-2
 unfolding sectionRead
-returns-2 c = rw (located-stop _ _ _ _ (sym (c .before .before .before .before .read-places .ensures) ∙ c .before .before .read2 .given .1)) (c .no-section .ensures)
+returns-2 c = rw (located-stop _ _ _ _ _ (sym (c .before .before .before .before .find .ensures) ∙ c .before .before .read2 .given .1)) (c .no-section .ensures)
 
 pub read-section-spec : {M : Type 1} → statement M
 read-section-spec =
     tie.close
     (tie.spec
-    read-places-requires
+    find-requires
     enum-known-read
     section-at-requires
     enum-known-read-2

@@ -3,8 +3,9 @@ use Prim.Native.Nat.{_<_}
 use mathlib.Core.Path.{sym, _∙_}
 use native.Mathlib.Omega.{arith}
 use Rattle.wire.proofs.Parts.{bytes-known}
-use Rattle.section.specs.Reading.{countAt}
-use Rattle.editor.proofs.Between.{found, not-found, frame-fine, replace-unread, replace-none, replace-spot, replace-is}
+use Rattle.section.specs.Reading.{countAt, checked}
+use Rattle.reader.proofs.Entries.{located-at, located-stop}
+use Rattle.editor.proofs.Between.{frame-fine, replace-unread, replace-none, replace-spot, replace-is}
 use borrow.Author.Needs.{needs}
 use Rattle.editor.proofs.editing.replace.Statement.{statement}
 use Rattle.editor.proofs.editing.replace.Tie as tie
@@ -24,7 +25,7 @@ enum-known-located-2 c = search needs
 slice-read-wide : tie.Need-slice-read-wide
 slice-read-wide c =
     let args = c .before .before .before .before .before .before .before .before .args in
-    let f = found (args .b .now) (args .number) _ _ (sym (c .before .before .before .before .locate .ensures) ∙ c .before .before .located2 .given .1) in omega (arith, frame-fine _ (f .fine) .large, frame-fine _ (f .fine) .within)
+    let f = located-at (checked (args .b .now)) _ _ _ _ _ _ (sym (c .before .before .before .before .locate .ensures) ∙ c .before .before .located2 .given .1) in omega (arith, frame-fine _ (f .fine) .large, frame-fine _ (f .fine) .within)
 
 wide-requires : tie.Need-wide-requires
 wide-requires c κs = search needs
@@ -39,27 +40,18 @@ returns : tie.Need-returns
 returns c =
     let args = c .before .before .before .before .before .before .before .before .before .before .before .args in
     let wide = c .before .before .wide in
-    let f = found (args .b .now) (args .number) _ _ (sym (c .before .before .before .before .before .before .before .locate .ensures) ∙ c .before .before .before .before .before .located2 .given .1) in
+    let f = located-at (checked (args .b .now)) _ _ _ _ _ _ (sym (c .before .before .before .before .before .before .before .locate .ensures) ∙ c .before .before .before .before .before .located2 .given .1) in
     replace-none (args .b .now) (args .number) (args .text .now) (args .link) (f .fine) _ (omega (arith, wide .ensures .0)) (rw (wide .ensures .0) at (c .refused2 .ensures))
-
-entry-end-requires : tie.Need-entry-end-requires
-entry-end-requires c κs =
-    let args = c .before .before .before .before .before .before .before .before .before .before .before .args in
-    let f = found (args .b .now) (args .number) _ _ (sym (c .before .before .before .before .before .before .before .locate .ensures) ∙ c .before .before .before .before .before .located2 .given .1) in
-    let b = bytes-known (args .b .now) (c .before .before .before .before .before .before .before .before .before .before .slice-known .given) in
-    let h : args .number < countAt (args .b .now) = omega (arith, c .before .before .wide .ensures .0) in
-    let s = replace-spot (args .b .now) (args .number) (args .text .now) (args .link) _ _ f b h in
-    omega (arith, s .inside, s .within)
 
 put-between-requires : tie.Need-put-between-requires
 put-between-requires c κs =
-    let args = c .before .before .before .before .before .before .before .before .before .before .before .before .before .args in
-    let wide = c .before .before .before .before .wide in
-    let f = found (args .b .now) (args .number) _ _ (sym (c .before .before .before .before .before .before .before .before .before .locate .ensures) ∙ c .before .before .before .before .before .before .before .located2 .given .1) in
-    let b = bytes-known (args .b .now) (c .before .before .before .before .before .before .before .before .before .before .before .before .slice-known .given) in
+    let args = c .before .before .before .before .before .before .before .before .before .before .before .args in
+    let wide = c .before .before .wide in
+    let f = located-at (checked (args .b .now)) _ _ _ _ _ _ (sym (c .before .before .before .before .before .before .before .locate .ensures) ∙ c .before .before .before .before .before .located2 .given .1) in
+    let b = bytes-known (args .b .now) (c .before .before .before .before .before .before .before .before .before .before .slice-known .given) in
     let h : args .number < countAt (args .b .now) = omega (arith, wide .ensures .0) in
-    let s = replace-spot (args .b .now) (args .number) (args .text .now) (args .link) _ _ f b h in
-    (rw (c .before .entry-end .ensures) s, omega (arith, wide .ensures .1))
+    let s = replace-spot (args .b .now) (args .number) (args .text .now) (args .link) _ _ _ f b h in
+    (s, omega (arith, wide .ensures .1))
 
 same-length-2 : tie.Need-same-length-2
 same-length-2 c = search needs
@@ -67,20 +59,20 @@ same-length-2 c = search needs
 returns-2 : tie.Need-returns-2
 returns-2 c =
     let args = c .before .before .before .before .before .before .before .before .args in
-    replace-unread (args .b .now) (args .number) (args .text .now) (args .link) _ _ (not-found (args .b .now) (args .number) _ (sym (c .before .before .before .before .locate .ensures) ∙ c .before .before .located .given .1)) (c .refused .ensures)
+    replace-unread (args .b .now) (args .number) (args .text .now) (args .link) _ _ (located-stop (checked (args .b .now)) _ _ _ _ (sym (c .before .before .before .before .locate .ensures) ∙ c .before .before .located .given .1)) (c .refused .ensures)
 
 same-length-3 : tie.Need-same-length-3
 same-length-3 c = search needs
 
 returns-3 : tie.Need-returns-3
 returns-3 c =
-    let args = c .before .before .before .before .before .before .before .before .before .before .before .before .before .before .before .before .args in
-    let wide = c .before .before .before .before .before .before .before .wide in
-    let f = found (args .b .now) (args .number) _ _ (sym (c .before .before .before .before .before .before .before .before .before .before .before .before .locate .ensures) ∙ c .before .before .before .before .before .before .before .before .before .before .located2 .given .1) in
-    let b = bytes-known (args .b .now) (c .before .before .before .before .before .before .before .before .before .before .before .before .before .before .before .slice-known .given) in
+    let args = c .before .before .before .before .before .before .before .before .before .before .before .before .before .before .args in
+    let wide = c .before .before .before .before .before .wide in
+    let f = located-at (checked (args .b .now)) _ _ _ _ _ _ (sym (c .before .before .before .before .before .before .before .before .before .before .locate .ensures) ∙ c .before .before .before .before .before .before .before .before .located2 .given .1) in
+    let b = bytes-known (args .b .now) (c .before .before .before .before .before .before .before .before .before .before .before .before .before .slice-known .given) in
     let h : args .number < countAt (args .b .now) = omega (arith, wide .ensures .0) in
-    let e = replace-is (args .b .now) (args .number) (args .text .now) (args .link) _ _ f b h in
-    rw (← e, ← c .before .before .before .before .entry-end .ensures, ← wide .ensures .0) (c .before .before .put-between .ensures)
+    let e = replace-is (args .b .now) (args .number) (args .text .now) (args .link) _ _ _ f b h in
+    rw (← e, ← wide .ensures .0) (c .before .before .put-between .ensures)
 
 pub replace-spec : {M : Type 1} → statement M
 replace-spec =
@@ -95,7 +87,6 @@ replace-spec =
     refused-requires-2
     same-length
     returns
-    entry-end-requires
     put-between-requires
     same-length-2
     returns-2

@@ -2,7 +2,8 @@
 use Prim.Native.Nat.{_+_, _-_}
 use mathlib.Core.Path.{sym, _∙_}
 use native.Mathlib.Omega.{arith}
-use Rattle.editor.proofs.Outcomes.{room-passed, between-own, between-room, between-done, fitting}
+use Rattle.edit.proofs.Outcomes.{room-passed}
+use Rattle.editor.proofs.Outcomes.{between-own, between-room, between-done, fitting}
 use Rattle.editor.proofs.Sizes.{link-few}
 use Rattle.editor.proofs.Stores.{finished-put}
 use borrow.Author.Needs.{needs}
@@ -54,7 +55,7 @@ add-section-length-2 : tie.Need-add-section-length-2
 add-section-length-2 c = omega (arith, link-few _ _ (sym (c .before .before .before .before .before .before .check-link .ensures) ∙ c .before .before .before .before .enum-told .given .1), c .link-length .ensures, c .before .total .ensures .1)
 
 check-room-requires : tie.Need-check-room-requires
-check-room-requires c κs = omega (arith, link-few _ _ (sym (c .before .before .before .before .before .before .check-link .ensures) ∙ c .before .before .before .before .enum-told .given .1), c .link-length .ensures, c .before .total .ensures .1)
+check-room-requires c κs = search needs
 
 enum-told-3 : tie.Need-enum-told-3
 enum-told-3 c = search needs
@@ -87,7 +88,7 @@ payload-end-requires : tie.Need-payload-end-requires
 payload-end-requires c κs = search needs
 
 seal-requires : tie.Need-seal-requires
-seal-requires c κs = omega (arith, c .payload-end .ensures, room-passed _ _ _ (sym (c .before .before .before .before .before .before .before .before .check-room .ensures) ∙ c .before .before .before .before .before .before .enum-told3 .given .1) .enough)
+seal-requires c κs = search needs
 
 fill-requires : tie.Need-fill-requires
 fill-requires c κs = search needs
@@ -107,9 +108,9 @@ returns-3 c =
     let seal = c .before .before .before .before .before .before .before .seal in
     let len = total .result - 3 - (args .to - args .from) + 2 + link-length .result in
     let fine = sym (c .before .before .before .before .before .before .before .before .before .before .before .before .before .before .before .before .before .before .before .before .before .before .before .check-link .ensures) ∙ c .before .before .before .before .before .before .before .before .before .before .before .before .before .before .before .before .before .before .before .before .before .enum-told .given .1 in
-    between-done (args .b .now) (args .from) (args .to) (args .count) (args .text .now) (args .link) fine _ len (link-length .ensures) (omega (arith, total .ensures .0, link-length .ensures)) _ _ _ (sym (c .before .before .before .before .before .before .before .before .before .before .before .before .before .before .before .before .check-room .ensures) ∙ c .before .before .before .before .before .before .before .before .before .before .before .before .before .before .enum-told3 .given .1)
-    (finished-put (args .b .now) _ _ _ (args .from) (args .to) (args .count) (args .text .now) (args .link) len (payload-end .result) (seal .result) (total .result) (c .before .before .before .before .before .before .before .before .before .before .before .before .splice .ensures) (seal .ensures .1) (c .before .before .before .fill .ensures) (omega (arith, total .ensures .0, link-length .ensures)) (payload-end .ensures) (omega (arith, seal .ensures .0, payload-end .ensures)) (total .ensures .0))
-    (omega (arith, seal .ensures .0, payload-end .ensures)) (c .accepted .ensures)
+    let room = sym (c .before .before .before .before .before .before .before .before .before .before .before .before .before .before .before .before .check-room .ensures) ∙ c .before .before .before .before .before .before .before .before .before .before .before .before .before .before .enum-told3 .given .1 in
+    let put = finished-put (args .b .now) _ _ _ (args .from) (args .to) (args .count) (args .text .now) (args .link) len (payload-end .result) (seal .result) (total .result) (room-passed _ _ _ room .enough) (c .before .before .before .before .before .before .before .before .before .before .before .before .splice .ensures) (seal .ensures .1) (c .before .before .before .fill .ensures) (omega (arith, total .ensures .0, link-length .ensures)) (payload-end .ensures) (seal .ensures .0) (total .ensures .0) in
+    between-done (args .b .now) (args .from) (args .to) (args .count) (args .text .now) (args .link) fine _ len (link-length .ensures) (omega (arith, total .ensures .0, link-length .ensures)) _ _ _ room (put .1) (put .0) (c .accepted .ensures)
 
 pub put-between-spec : {M : Type 1} → statement M
 put-between-spec =

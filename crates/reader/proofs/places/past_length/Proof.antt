@@ -1,8 +1,10 @@
 -- `past_length` meets its contract. Assumes nothing.
-use mathlib.Core.Path.{_≡_, sym}
+use Prim.Native.Nat.{_+_}
+use mathlib.Core.Path.{ap}
 use native.Mathlib.Omega.{arith}
-use Rattle.wire.proofs.Blocks.{block-cut, block-pass}
-use Rattle.reader.proofs.Entries.{stop-step, at-step, length-5}
+use Rattle.wire.specs.declared.lengths.LengthField.{LengthField}
+use Rattle.wire.proofs.Blocks.{block-cut, block-long, block-pass}
+use Rattle.reader.proofs.Entries.{stop-step, at-step}
 use borrow.Author.Needs.{needs}
 use Rattle.reader.proofs.places.past_length.Statement.{statement}
 use Rattle.reader.proofs.places.past_length.Tie as tie
@@ -13,18 +15,41 @@ add-start c = search needs
 returns : tie.Need-returns
 returns c = stop-step _ _ _ (block-cut 4 5 0 (c .before .before .args .s .now) (c .before .before .args .e) (c .before .before .args .p) (c .if1 .taken))
 
-entry-end-requires : tie.Need-entry-end-requires
-entry-end-requires c κs = search needs
+shared-slice-read-of-bytes : tie.Need-shared-slice-read-of-bytes
+shared-slice-read-of-bytes c = search needs
 
-sub-t8 : tie.Need-sub-t8
-sub-t8 c = search needs
+add-of-bytes : tie.Need-add-of-bytes
+add-of-bytes c = search needs
+
+shared-slice-read-of-bytes-2 : tie.Need-shared-slice-read-of-bytes-2
+shared-slice-read-of-bytes-2 c = search needs
+
+of-bytes-requires : tie.Need-of-bytes-requires
+of-bytes-requires c κs = search needs
+
+add-next : tie.Need-add-next
+add-next c = omega (arith, ap (λ (f : LengthField). f .length) (c .before .of-bytes .ensures), c .before .before .before .before .before .shared-slice-known .given (c .before .before .before .before .before .before .args .p + 1))
 
 returns-2 : tie.Need-returns-2
-returns-2 c = length-5 (c .before .before .before .before .args .s .now) (c .before .before .before .before .args .e) (c .before .before .before .before .args .p) _ (c .before .entry-end .ensures .0) (c .before .before .if1 .left) (c .if2 .taken)
+returns-2 c =
+    let n = ap (λ (f : LengthField). f .length) (c .before .before .of-bytes .ensures) in
+    rw n (stop-step _ _ _ (block-long 4 5 0 (c .before .before .before .before .before .before .before .args .s .now) (c .before .before .before .before .before .before .before .args .e) (c .before .before .before .before .before .before .before .args .p) (c .before .before .before .before .before .if1 .left) (omega arith)))
 
 returns-3 : tie.Need-returns-3
-returns-3 c = at-step _ _ _ (block-pass 4 5 (c .before .before .before .before .args .s .now) (c .before .before .before .before .args .e) (c .before .before .before .before .args .p) (omega arith)) (sym (c .before .entry-end .ensures .0))
+returns-3 c =
+    let n = ap (λ (f : LengthField). f .length) (c .before .before .of-bytes .ensures) in
+    at-step _ _ _ (block-pass 4 5 (c .before .before .before .before .before .before .before .args .s .now) (c .before .before .before .before .before .before .before .args .e) (c .before .before .before .before .before .before .before .args .p) (omega arith)) (omega arith)
 
 pub past-length-spec : {M : Type 1} → statement M
 past-length-spec =
-    tie.close (tie.spec add-start returns entry-end-requires sub-t8 returns-2 returns-3)
+    tie.close
+    (tie.spec
+    add-start
+    returns
+    shared-slice-read-of-bytes
+    add-of-bytes
+    shared-slice-read-of-bytes-2
+    of-bytes-requires
+    add-next
+    returns-2
+    returns-3)

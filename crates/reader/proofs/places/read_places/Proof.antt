@@ -50,9 +50,9 @@ loop-verdict-requires c κs =
     let f = opened-fine rct _ s (o .0) in
     let n = length-short s 1 (bytes-known s (c .before .before .before .before .before .before .before .before .before .before .shared-slice-known .given)) in
     let e = o .1 in
-    let g = located-at _ _ _ _ _ (sym (rw (← o .1, c .before .before .before .before .wide .ensures .0) at (c .before .before .before .past-links .ensures)) ∙ c .before .links .given .1) in
-    let w = walked (countAt s) s (payloadEnd s) headLength (bytes-known s (c .before .before .before .before .before .before .before .before .before .before .shared-slice-known .given)) (omega arith) (omega arith) (g .0) .within in
-    (omega (arith, g .1 .1), omega arith)
+    let g = located-at _ _ _ _ _ _ _ (sym (rw (← o .1, c .before .before .before .before .wide .ensures .0) at (c .before .before .before .past-links .ensures)) ∙ c .before .links .given .1) in
+    let w = walked (countAt s) s (payloadEnd s) headLength (bytes-known s (c .before .before .before .before .before .before .before .before .before .before .shared-slice-known .given)) (omega arith) (omega arith) (g .fine) .within in
+    (omega (arith, g .loop-at), omega arith)
 
 enum-told : tie.Need-enum-told
 enum-told c = search needs
@@ -70,24 +70,24 @@ returns : tie.Need-returns
 returns c =
     let s = c .before .before .before .before .before .before .before .before .before .before .before .before .before .before .args .s .now in
     let o = step-at _ _ _ (sym (c .before .before .before .before .before .before .before .before .before .before .before .before .past-front .ensures) ∙ c .before .before .before .before .before .before .before .before .before .before .front .given .1) in
-    let g = located-at _ _ _ _ _ (sym (rw (← o .1, c .before .before .before .before .before .before .before .wide .ensures .0) at (c .before .before .before .before .before .before .past-links .ensures)) ∙ c .before .before .before .before .links .given .1) in
-    at-located _ _ _ _ _ (sym (reading-loop _ s (o .0) (g .0)) ∙ sym (rw (← o .1, ← g .1 .1) at (c .before .before .loop-verdict .ensures)) ∙ c .enum-told .given .1) (g .1 .0) (g .1 .1)
+    let g = located-at _ _ _ _ _ _ _ (sym (rw (← o .1, c .before .before .before .before .before .before .before .wide .ensures .0) at (c .before .before .before .before .before .before .past-links .ensures)) ∙ c .before .before .before .before .links .given .1) in
+    at-located _ _ _ _ _ _ _ (sym (reading-loop _ s (o .0) (g .fine)) ∙ sym (rw (← o .1, ← g .loop-at) at (c .before .before .loop-verdict .ensures)) ∙ c .enum-told .given .1) (g .link-at) (g .link-end) (g .loop-at)
 
 returns-2 : tie.Need-returns-2
 returns-2 c =
     let s = c .before .before .before .before .before .before .before .before .before .before .before .before .before .before .before .args .s .now in
     let o = step-at _ _ _ (sym (c .before .before .before .before .before .before .before .before .before .before .before .before .before .past-front .ensures) ∙ c .before .before .before .before .before .before .before .before .before .before .before .front .given .1) in
-    let g = located-at _ _ _ _ _ (sym (rw (← o .1, c .before .before .before .before .before .before .before .before .wide .ensures .0) at (c .before .before .before .before .before .before .before .past-links .ensures)) ∙ c .before .before .before .before .before .links .given .1) in
-    stop-located _ _ _ _ (sym (reading-loop _ s (o .0) (g .0)) ∙ sym (rw (← o .1, ← g .1 .1) at (c .before .before .before .loop-verdict .ensures)) ∙ c .before .v .given .1)
+    let g = located-at _ _ _ _ _ _ _ (sym (rw (← o .1, c .before .before .before .before .before .before .before .before .wide .ensures .0) at (c .before .before .before .before .before .before .before .past-links .ensures)) ∙ c .before .before .before .before .before .links .given .1) in
+    stop-located _ _ _ _ _ (sym (reading-loop _ s (o .0) (g .fine)) ∙ sym (rw (← o .1, ← g .loop-at) at (c .before .before .before .loop-verdict .ensures)) ∙ c .before .v .given .1)
 
 returns-3 : tie.Need-returns-3
 returns-3 c =
     let s = c .before .before .before .before .before .before .before .before .before .before .before .args .s .now in
     let o = step-at _ _ _ (sym (c .before .before .before .before .before .before .before .before .before .past-front .ensures) ∙ c .before .before .before .before .before .before .before .front .given .1) in
-    stop-located _ _ _ _ (reading-links _ s (o .0) _ (located-stop _ _ _ _ (sym (rw (← o .1, c .before .before .before .before .wide .ensures .0) at (c .before .before .before .past-links .ensures)) ∙ c .before .links2 .given .1)))
+    stop-located _ _ _ _ _ (reading-links _ s (o .0) _ (located-stop _ _ _ _ _ (sym (rw (← o .1, c .before .before .before .before .wide .ensures .0) at (c .before .before .before .past-links .ensures)) ∙ c .before .links2 .given .1)))
 
 returns-4 : tie.Need-returns-4
-returns-4 c = stop-located _ _ _ _ (reading-closed _ (c .before .before .before .before .before .args .s .now) _ (step-stop _ _ _ (sym (c .before .before .before .past-front .ensures) ∙ c .before .front2 .given .1)))
+returns-4 c = stop-located _ _ _ _ _ (reading-closed _ (c .before .before .before .before .before .args .s .now) _ (step-stop _ _ _ (sym (c .before .before .before .past-front .ensures) ∙ c .before .front2 .given .1)))
 
 pub read-places-spec : {M : Type 1} → statement M
 read-places-spec =

@@ -1,0 +1,2 @@
+-- Document 01's list of fields.
+pub mod Fields

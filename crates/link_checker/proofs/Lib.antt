@@ -1,0 +1,2 @@
+-- That the checks' contract leaves one outcome.
+pub mod Unique

@@ -1,0 +1,2 @@
+-- Each public contract leaves one outcome.
+pub mod Unique

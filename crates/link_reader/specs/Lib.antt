@@ -1,0 +1,2 @@
+-- What the stages of reading a body answer.
+pub mod Steps

@@ -1,0 +1,2 @@
+-- That the writing's contract leaves one outcome.
+pub mod Unique

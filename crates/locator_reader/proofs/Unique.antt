@@ -1,0 +1,9 @@
+-- Each public function's own contract takes every input and leaves one outcome.
+-- Assumes nothing.
+use mathlib.Core.Path.{refl}
+use Rattle.wire.proofs.One.{One, both}
+use Rattle.locator_reader.proofs.read_locator.Kinds as read-locator-kinds
+use Rattle.locator_reader.proofs.read_locator.Reads as read-locator-reads
+
+pub read-locator-one : One read-locator-kinds.ps read-locator-kinds.r read-locator-reads.Asked read-locator-reads.Learnt
+read-locator-one = record { total = λ κs a. tt; one = λ κs a x y v w p q. (both p q, refl) }

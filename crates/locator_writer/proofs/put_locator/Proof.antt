@@ -1,0 +1,45 @@
+-- `put_locator` meets its contract. Assumes nothing.
+use native.Mathlib.Omega.{arith}
+use Rattle.wire.proofs.Writing.{then}
+use Rattle.locator.specs.Syntax.{locatorBytes, locatorLength}
+use Rattle.locator.proofs.Sizes.{service-length, identifier-length, windows-length}
+use borrow.Author.Needs.{needs}
+use Rattle.locator_writer.proofs.put_locator.Statement.{statement}
+use Rattle.locator_writer.proofs.put_locator.Tie as tie
+
+head-requires : tie.Need-head-requires
+head-requires c κs = search needs
+
+put16-requires : tie.Need-put16-requires
+unfolding locatorLength
+put16-requires c κs = omega arith
+
+put-service-requires : tie.Need-put-service-requires
+unfolding locatorLength
+put-service-requires c κs = omega (arith, service-length (c .before .before .before .before .before .before .before .args .locator .service))
+
+put16-requires-2 : tie.Need-put16-requires-2
+unfolding locatorLength
+put16-requires-2 c κs = omega (arith, service-length (c .before .before .before .before .before .before .before .before .before .before .before .args .locator .service))
+
+put16-requires-3 : tie.Need-put16-requires-3
+unfolding locatorLength
+put16-requires-3 c κs = omega (arith, service-length (c .before .before .before .before .before .before .before .before .before .before .before .before .before .before .before .args .locator .service))
+
+put-identifier-requires : tie.Need-put-identifier-requires
+unfolding locatorLength
+put-identifier-requires c κs = omega (arith, service-length (c .before .before .before .before .before .before .before .before .before .before .before .before .before .before .before .before .before .before .before .args .locator .service), identifier-length (c .before .before .before .before .before .before .before .before .before .before .before .before .before .before .before .before .before .before .before .args .locator .identifier))
+
+put-windows-requires : tie.Need-put-windows-requires
+unfolding locatorLength
+put-windows-requires c κs = (c .before .before .before .before .before .before .before .before .before .before .before .before .before .before .before .before .before .before .before .before .before .before .before .pre .0 .windows, omega (arith, service-length (c .before .before .before .before .before .before .before .before .before .before .before .before .before .before .before .before .before .before .before .before .before .before .before .args .locator .service), identifier-length (c .before .before .before .before .before .before .before .before .before .before .before .before .before .before .before .before .before .before .before .before .before .before .before .args .locator .identifier), windows-length (c .before .before .before .before .before .before .before .before .before .before .before .before .before .before .before .before .before .before .before .before .before .before .before .args .locator .windows)))
+
+same-length : tie.Need-same-length
+same-length c = search needs
+
+returns : tie.Need-returns
+unfolding locatorBytes
+returns c = then (then (then (then (then (rw (c .before .before .before .before .before .before .before .before .before .before .before .before .before .before .before .before .before .before .before .before .before .before .before .head .ensures) at (c .before .before .before .before .before .before .before .before .before .before .before .before .before .before .before .before .before .before .before .before .before .before .put16 .ensures)) (c .before .before .before .before .before .before .before .before .before .before .before .before .before .before .before .before .before .before .put-service .ensures)) (c .before .before .before .before .before .before .before .before .before .before .before .before .before .before .put162 .ensures)) (c .before .before .before .before .before .before .before .before .before .before .put163 .ensures)) (c .before .before .before .before .before .before .put-identifier .ensures)) (c .before .before .put-windows .ensures)
+
+pub put-locator-spec : {M : Type 1} → statement M
+put-locator-spec = tie.close (tie.spec head-requires put16-requires put-service-requires put16-requires-2 put16-requires-3 put-identifier-requires put-windows-requires same-length returns)

@@ -7,7 +7,7 @@ use mathlib.Core.List.{List, [], _∷_, _++_, append-assoc, append-nil}
 use lib.ListN.{length, take, drop, getD, set, length-append, length-take, length-set}
 use lib.Seq.{take-at, drop-at, take-add, take-take, length-take-le, set-split, split-at, take-set-lt, drop-set-lt, getD-take}
 use Rattle.wire.specs.Lists.{Bytes, part}
-use Rattle.wire.specs.Lengths.{longest, lengthBytes, besideAt, blockBytes, blockEnd}
+use Rattle.wire.specs.Lengths.{longest, lengthBytes, besideOf, besideAt, blockBytes, blockEnd}
 use Rattle.wire.specs.declared.verdict.Verdict.the-variants.{Fine}
 use Rattle.link.specs.Syntax.{Link, entryOf}
 use Rattle.frame.specs.Frame.{declared, payloadEnd}
@@ -25,8 +25,8 @@ pub rehead-head : (h : RctHeader) (m n j k : ℕ) (ys : List ℕ) → m ≤ long
 unfolding rehead headBytes lengthBytes
 rehead-head h m n j k ys l = λ i. tableId ∷ first i ∷ drop 2 (headBytes h n k ++ ys)
   where
-    first : (firstBits h * 16 + m / 256) / 16 * 16 + n / 256 ≡ firstBits h * 16 + n / 256
-    first = omega arith
+    first : besideOf (firstBits h * 16 + m / 256) (m % 256) * 16 + n / 256 ≡ firstBits h * 16 + n / 256
+    first = omega (arith, l)
 
 pub rehead-take : (e : ℕ) (xs : List ℕ) (n k : ℕ) → 10 < e → take e (rehead xs n k) ≡ rehead (take e xs) n k
 unfolding rehead lengthBytes
@@ -34,7 +34,7 @@ rehead-take e xs n k h =
     let h1 : 1 < e = omega arith in
     let h2 : 2 < e = omega arith in
     let hi : ℕ = besideAt xs 1 * 16 + n / 256 in
-    rw (take-set-lt e (set (set xs 1 hi) 2 (n % 256)) 10, take-set-lt e (set xs 1 hi) 2, take-set-lt e xs 1, getD-take e xs 1 0)
+    rw (take-set-lt e (set (set xs 1 hi) 2 (n % 256)) 10, take-set-lt e (set xs 1 hi) 2, take-set-lt e xs 1, getD-take e xs 1 0, getD-take e xs 2 0)
 
 pub rehead-drop : (e : ℕ) (xs : List ℕ) (n k : ℕ) → 10 < e → drop e (rehead xs n k) ≡ drop e xs
 unfolding rehead lengthBytes

@@ -10,7 +10,7 @@ use lib.Seq.{sets, length-sets}
 use borrow.Author.Tests.{le-leb}
 use Rattle.wire.specs.Choice.{pick}
 use Rattle.wire.specs.Lists.{part}
-use Rattle.wire.specs.Lengths.{longest, lengthBytes, besideAt, blockBytes}
+use Rattle.wire.specs.Lengths.{longest, widestBeside, lengthBytes, besideAt, blockBytes}
 use Rattle.wire.specs.Stores.{roomAt, putAt, Wrote}
 use Rattle.wire.specs.declared.verdict.Verdict.the-variants.{Fine}
 use Rattle.wire.proofs.Parts.{length-part}
@@ -99,10 +99,10 @@ entry-put xs ys zs bs at n t k c l r is b p w =
 
 -- ---- the head's numbers
 
-pub numbers-put : (xs bs : List ℕ) (len count : ℕ) → getD xs 1 0 < 256 → len ≤ longest → bs ≡ lengthBytes (besideAt xs 1 % 16) (len % 4096)
+pub numbers-put : (xs bs : List ℕ) (len count : ℕ) → besideAt xs 1 ≤ widestBeside → len ≤ longest → bs ≡ lengthBytes (besideAt xs 1 % 16) (len % 4096)
     → set (set (set xs 1 (getD bs 0 0)) 2 (getD bs 1 0)) 10 count ≡ rehead xs len count
 unfolding rehead lengthBytes
-numbers-put xs bs len count h l b = rw (b ∙ field-whole (besideAt xs 1) len (omega arith) l)
+numbers-put xs bs len count h l b = rw (b ∙ field-whole (besideAt xs 1) len h l)
 
 -- ---- the three of them: the tail, the entry, the numbers
 

@@ -106,8 +106,9 @@ fn put_numbers(b: &mut [u8], section_length: usize, count: usize)
     requires { ⌜ (10 < length (now b)) × ((«section_length» ≤ longest) × (count ≤ mostLinks)) ⌝ }
     ensures { λ r. ⌜ now (b .exit) ≡ rehead (now (b .entry)) «section_length» count ⌝ }
 {
+    let old = LengthField::of_bytes(b[1], b[2]);
     let field = LengthField {
-        beside: b[1] / 16,
+        beside: old.beside,
         length: section_length,
     };
     let bytes = field.to_bytes();

@@ -9,6 +9,7 @@ use link::LinkInfo;
 use link::reading::ItemRead;
 use link::reading::LinkRead;
 use reader::Located;
+use wire::lengths::LengthField;
 use wire::verdict::Refusal;
 use wire::verdict::Verdict;
 
@@ -65,7 +66,8 @@ pub fn read_link(s: &[u8], number: usize) -> LinkRead
             loop_at: _,
         } => {
             let start = link_at + 2;
-            link_reader::read_link(&s[start..link_end], start as u16, (s[link_at] / 16) as u16)
+            let field = LengthField::of_bytes(s[link_at], s[link_at + 1]);
+            link_reader::read_link(&s[start..link_end], start as u16, field.beside as u16)
         }
         Located::Refused(r) => no_link(r),
     }

@@ -28,7 +28,8 @@ fn link_at(s: &[u8], p: usize, next: usize) -> LinkRead
     ensures { λ r. ⌜ r ≡ linkRead (p + 2) (besideAt (now (s .entry)) p) (bodyIn (now (s .entry)) p) ⌝ }
 {
     let start = p + 2;
-    link_reader::read_link(&s[start..next], start as u16, (s[p] / 16) as u16)
+    let field = LengthField::of_bytes(s[p], s[p + 1]);
+    link_reader::read_link(&s[start..next], start as u16, field.beside as u16)
 }
 
 fn no_entry(refusal: Refusal) -> EntryRead

@@ -72,7 +72,8 @@ fn header_at(s: &[u8]) -> RctHeader
     requires { ⌜ 11 ≤ length (now s) ⌝ }
     ensures { λ r. ⌜ r ≡ headerAt (now (s .entry)) ⌝ }
 {
-    let first = s[1] / 16;
+    let field = LengthField::of_bytes(s[1], s[2]);
+    let first = field.beside;
     let version = s[5];
     RctHeader {
         section_syntax_indicator: first / 8 == 1,

@@ -11,10 +11,11 @@ use borrow.Author.Tests.{eq-eqb, ne-eqb}
 use Rattle.wire.specs.Choice.{bit}
 use Rattle.wire.specs.Lists.{Bytes, firsts}
 use Rattle.wire.specs.Numbers.{be16}
-use Rattle.wire.specs.Lengths.{longest, lengthBytes, besideAt}
+use Rattle.wire.specs.Lengths.{longest, lengthBytes, besideOf, besideAt}
 use Rattle.field.specs.Fields.{low, sectionReserved, versionNumber, versionReserved}
 use Rattle.wire.proofs.Parts.{bytes-at, firsts-part}
 use Rattle.wire.proofs.Words.{word16-back, word16-high, word16-low}
+use Rattle.wire.proofs.Blocks.{beside-narrow}
 use Rattle.frame.specs.Frame.{declared}
 use Rattle.section.specs.declared.RctHeader.{RctHeader}
 use Rattle.section.specs.Syntax.{tableId, headLength, newHeader, firstBits, versionByte, headBytes, HeaderFits}
@@ -42,7 +43,7 @@ unfolding headBytes lengthBytes
 head-rebuild xs b z l = bytewise ∙ firsts-part headLength xs 0 (omega arith)
   where
     nibble : firstBits (headerAt xs) ≡ besideAt xs 1
-    nibble = rw (bit-rebuild (besideAt xs 1 / 8) (omega (arith, bytes-at xs 1 b)), bit-rebuild (besideAt xs 1 / 4 % 2) (omega arith)) (omega arith)
+    nibble = rw (bit-rebuild (besideAt xs 1 / 8) (omega (arith, beside-narrow xs 1 b)), bit-rebuild (besideAt xs 1 / 4 % 2) (omega arith)) (omega arith)
 
     p1 : firstBits (headerAt xs) * 16 + declared xs / 256 ≡ getD xs 1 0
     p1 = omega (arith, nibble, bytes-at xs 2 b)
@@ -126,10 +127,10 @@ head-back h len count ys f l =
     }
   where
     first : ℕ
-    first = (firstBits h * 16 + len / 256) / 16
+    first = besideOf (firstBits h * 16 + len / 256) (len % 256)
 
     nibble : first ≡ firstBits h
-    nibble = omega arith
+    nibble = omega (arith, l)
 
     syntax : eqb (first / 8) 1 ≡ h .«section_syntax_indicator»
     syntax = bit-back (h .«section_syntax_indicator») (first / 8) (omega (arith, nibble, f .reserved1, bit-small (h .«table_id_extension_flag»)))

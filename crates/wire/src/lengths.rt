@@ -18,9 +18,10 @@ impl LengthField {
     pub fn of_bytes(hi: u8, lo: u8) -> LengthField
         ensures { λ r. ⌜ r ≡ lengthField hi lo ⌝ }
     {
+        let both = crate::be16(hi, lo) as usize;
         LengthField {
-            beside: hi / 16,
-            length: crate::wide(hi % 16) * 256 + crate::wide(lo),
+            beside: (both / (LengthField::LONGEST + 1)) as u8,
+            length: both % (LengthField::LONGEST + 1),
         }
     }
 

@@ -22,38 +22,53 @@ add-start c =
     let n = number-known s _ _ _ _ (bytes-known s (c .before .before .before .before .shared-slice-known .given)) (sym (c .before .before .before .numbered .ensures) ∙ c .before .found .given .1) in
     search needs
 
-sub-read-link : tie.Need-sub-read-link
-sub-read-link c =
-    let s = c .before .before .before .before .before .args .s .now in
-    let n = number-known s _ _ _ _ (bytes-known s (c .before .before .before .before .shared-slice-known .given)) (sym (c .before .before .before .numbered .ensures) ∙ c .before .found .given .1) in
-    search needs
-
-part-read-link-start : tie.Need-part-read-link-start
-part-read-link-start c =
-    let s = c .before .before .before .before .before .args .s .now in
-    let n = number-known s _ _ _ _ (bytes-known s (c .before .before .before .before .shared-slice-known .given)) (sym (c .before .before .before .numbered .ensures) ∙ c .before .found .given .1) in
-    search needs
-
-part-read-link-end : tie.Need-part-read-link-end
-part-read-link-end c =
-    let s = c .before .before .before .before .before .args .s .now in
-    let n = number-known s _ _ _ _ (bytes-known s (c .before .before .before .before .shared-slice-known .given)) (sym (c .before .before .before .numbered .ensures) ∙ c .before .found .given .1) in
-    search needs
-
-cast-read-link : tie.Need-cast-read-link
-cast-read-link c =
+shared-slice-read-of-bytes : tie.Need-shared-slice-read-of-bytes
+shared-slice-read-of-bytes c =
     let s = c .before .before .before .before .before .before .args .s .now in
     let n = number-known s _ _ _ _ (bytes-known s (c .before .before .before .before .before .shared-slice-known .given)) (sym (c .before .before .before .before .numbered .ensures) ∙ c .before .before .found .given .1) in
     search needs
 
-shared-slice-read-read-link : tie.Need-shared-slice-read-read-link
-shared-slice-read-read-link c =
+add-of-bytes : tie.Need-add-of-bytes
+add-of-bytes c =
+    let s = c .before .before .before .before .before .before .args .s .now in
+    let n = number-known s _ _ _ _ (bytes-known s (c .before .before .before .before .before .shared-slice-known .given)) (sym (c .before .before .before .before .numbered .ensures) ∙ c .before .before .found .given .1) in
+    search needs
+
+shared-slice-read-of-bytes-2 : tie.Need-shared-slice-read-of-bytes-2
+shared-slice-read-of-bytes-2 c =
     let s = c .before .before .before .before .before .before .before .args .s .now in
     let n = number-known s _ _ _ _ (bytes-known s (c .before .before .before .before .before .before .shared-slice-known .given)) (sym (c .before .before .before .before .before .numbered .ensures) ∙ c .before .before .before .found .given .1) in
     search needs
 
+of-bytes-requires : tie.Need-of-bytes-requires
+of-bytes-requires c κs = search needs
+
+sub-read-link : tie.Need-sub-read-link
+sub-read-link c =
+    let s = c .before .before .before .before .before .before .before .before .args .s .now in
+    let n = number-known s _ _ _ _ (bytes-known s (c .before .before .before .before .before .before .before .shared-slice-known .given)) (sym (c .before .before .before .before .before .before .numbered .ensures) ∙ c .before .before .before .before .found .given .1) in
+    search needs
+
+part-read-link-start : tie.Need-part-read-link-start
+part-read-link-start c =
+    let s = c .before .before .before .before .before .before .before .before .args .s .now in
+    let n = number-known s _ _ _ _ (bytes-known s (c .before .before .before .before .before .before .before .shared-slice-known .given)) (sym (c .before .before .before .before .before .before .numbered .ensures) ∙ c .before .before .before .before .found .given .1) in
+    search needs
+
+part-read-link-end : tie.Need-part-read-link-end
+part-read-link-end c =
+    let s = c .before .before .before .before .before .before .before .before .args .s .now in
+    let n = number-known s _ _ _ _ (bytes-known s (c .before .before .before .before .before .before .before .shared-slice-known .given)) (sym (c .before .before .before .before .before .before .numbered .ensures) ∙ c .before .before .before .before .found .given .1) in
+    search needs
+
+cast-read-link : tie.Need-cast-read-link
+cast-read-link c =
+    let s = c .before .before .before .before .before .before .before .before .before .args .s .now in
+    let n = number-known s _ _ _ _ (bytes-known s (c .before .before .before .before .before .before .before .before .shared-slice-known .given)) (sym (c .before .before .before .before .before .before .before .numbered .ensures) ∙ c .before .before .before .before .before .found .given .1) in
+    search needs
+
 cast-read-link-2 : tie.Need-cast-read-link-2
-cast-read-link-2 c = omega (arith, c .before .before .before .before .before .before .shared-slice-known .given (c .before .before .before .found .given .0 .0))
+cast-read-link-2 c = search needs
 
 read-link-requires : tie.Need-read-link-requires
 read-link-requires c κs = search needs
@@ -66,9 +81,9 @@ no-link-requires c κs = search needs
 
 returns : tie.Need-returns
 returns c =
-    let s = c .before .before .before .before .before .before .before .before .args .s .now in
-    let n = number-known s _ _ _ _ (bytes-known s (c .before .before .before .before .before .before .before .shared-slice-known .given)) (sym (c .before .before .before .before .before .before .numbered .ensures) ∙ c .before .before .before .before .found .given .1) in
-    c .read-link .ensures ∙ number-link s _ _ _ n
+    let s = c .before .before .before .before .before .before .before .before .before .before .before .args .s .now in
+    let n = number-known s _ _ _ _ (bytes-known s (c .before .before .before .before .before .before .before .before .before .before .shared-slice-known .given)) (sym (c .before .before .before .before .before .before .before .before .before .numbered .ensures) ∙ c .before .before .before .before .before .before .before .found .given .1) in
+    rw (c .before .before .before .of-bytes .ensures) at (c .read-link .ensures) ∙ number-link s _ _ _ n
 
 returns-2 : tie.Need-returns-2
 unfolding numberedLink
@@ -81,11 +96,14 @@ read-link-spec =
     numbered-requires
     enum-known-found
     add-start
+    shared-slice-read-of-bytes
+    add-of-bytes
+    shared-slice-read-of-bytes-2
+    of-bytes-requires
     sub-read-link
     part-read-link-start
     part-read-link-end
     cast-read-link
-    shared-slice-read-read-link
     cast-read-link-2
     read-link-requires
     enum-known-found-2

@@ -6,8 +6,14 @@ use borrow.Author.Needs.{needs}
 use Rattle.editor.proofs.splicing.put_numbers.Statement.{statement}
 use Rattle.editor.proofs.splicing.put_numbers.Tie as tie
 
-slice-read-b : tie.Need-slice-read-b
-slice-read-b c = search needs
+slice-read-of-bytes : tie.Need-slice-read-of-bytes
+slice-read-of-bytes c = search needs
+
+slice-read-of-bytes-2 : tie.Need-slice-read-of-bytes-2
+slice-read-of-bytes-2 c = search needs
+
+of-bytes-requires : tie.Need-of-bytes-requires
+of-bytes-requires c κs = search needs
 
 to-bytes-requires : tie.Need-to-bytes-requires
 to-bytes-requires c κs = search needs
@@ -34,13 +40,15 @@ same-length : tie.Need-same-length
 same-length c = search needs
 
 returns : tie.Need-returns
-returns c = numbers-put _ _ _ _ (omega (arith, c .before .before .slice-known .given 1)) (c .before .before .before .pre .1 .0) (c .to-bytes .ensures)
+returns c = numbers-put _ _ _ _ (omega (arith, c .before .before .before .before .slice-known .given 1, c .before .before .before .before .slice-known .given 2)) (c .before .before .before .before .before .pre .1 .0) (rw (c .before .of-bytes .ensures) at (c .to-bytes .ensures))
 
 pub put-numbers-spec : {M : Type 1} → statement M
 put-numbers-spec =
     tie.close
     (tie.spec
-    slice-read-b
+    slice-read-of-bytes
+    slice-read-of-bytes-2
+    of-bytes-requires
     to-bytes-requires
     array-read-b
     slice-write-b

@@ -17,7 +17,7 @@ refused-requires c κs = search needs
 returns : tie.Need-returns
 returns c =
     let a = c .before .before .before .before .args in
-    cc (opened-short (a .t) (a .most) (a .s .now) (omega arith), c .refused .ensures, c .before .before .least .ensures .0)
+    rw (c .refused .ensures, c .before .before .least .ensures .0) (sym (opened-short (a .t) (a .most) (a .s .now) (omega arith)))
 
 shared-slice-read-id : tie.Need-shared-slice-read-id
 shared-slice-read-id c = search needs
@@ -34,7 +34,7 @@ refused-requires-2 c κs = search needs
 returns-2 : tie.Need-returns-2
 returns-2 c =
     let a = c .before .before .before .before .before .before .before .before .before .args in
-    cc (opened-other (a .t) (a .most) (a .s .now) (omega arith) (c .before .before .before .if2 .taken), c .refused2 .ensures, c .before .before .wide .ensures .0, c .before .wide2 .ensures .0)
+    rw (c .refused2 .ensures, c .before .before .wide .ensures .0, c .before .wide2 .ensures .0) (sym (opened-other (a .t) (a .most) (a .s .now) (omega arith) (c .before .before .before .if2 .taken)))
 
 shared-slice-read-total : tie.Need-shared-slice-read-total
 shared-slice-read-total c = search needs
@@ -55,7 +55,7 @@ returns-3 : tie.Need-returns-3
 returns-3 c =
     let a = c .before .before .before .before .before .before .before .before .before .before .before .args in
     let n : c .before .before .total .result - uncounted ≡ declared (a .s .now) = omega arith in
-    cc (opened-small (a .t) (a .most) (a .s .now) (omega arith) (c .before .before .before .before .before .if2 .left) (omega arith), c .refused3 .ensures)
+    rw (c .refused3 .ensures, n) (sym (opened-small (a .t) (a .most) (a .s .now) (omega arith) (c .before .before .before .before .before .if2 .left) (omega arith)))
 
 refused-requires-4 : tie.Need-refused-requires-4
 refused-requires-4 c κs = search needs
@@ -64,7 +64,7 @@ returns-4 : tie.Need-returns-4
 returns-4 c =
     let a = c .before .before .before .before .before .before .before .before .before .before .before .before .args in
     let n : c .before .before .before .total .result - uncounted ≡ declared (a .s .now) = omega arith in
-    cc (opened-cut (a .t) (a .most) (a .s .now) (omega arith) (c .before .before .before .before .before .before .if2 .left) (omega arith) (omega arith), c .refused4 .ensures)
+    rw (c .refused4 .ensures, n) (sym (opened-cut (a .t) (a .most) (a .s .now) (omega arith) (c .before .before .before .before .before .before .if2 .left) (omega arith) (omega arith)))
 
 refused-requires-5 : tie.Need-refused-requires-5
 refused-requires-5 c κs = search needs
@@ -73,7 +73,7 @@ returns-5 : tie.Need-returns-5
 returns-5 c =
     let a = c .before .before .before .before .before .before .before .before .before .before .before .before .before .args in
     let n : c .before .before .before .before .total .result - uncounted ≡ declared (a .s .now) = omega arith in
-    cc (opened-long (a .t) (a .most) (a .s .now) (omega arith) (c .before .before .before .before .before .before .before .if2 .left) (omega arith) (omega arith) (omega arith), c .refused5 .ensures)
+    rw (c .refused5 .ensures, n) (sym (opened-long (a .t) (a .most) (a .s .now) (omega arith) (c .before .before .before .before .before .before .before .if2 .left) (omega arith) (omega arith) (omega arith)))
 
 returns-6 : tie.Need-returns-6
 returns-6 c =

@@ -21,7 +21,7 @@ first-of-requires-2 c κs = search needs
 
 returns : tie.Need-returns
 unfolding checkEnd
-returns c = cc
+returns c = rw (c .first-of2 .ensures, c .before .first-of .ensures, c .before .before .narrow2 .ensures, c .before .before .before .narrow .ensures, c .before .before .before .before .short .ensures)
 
 pub check-end-spec : {M : Type 1} → statement M
 check-end-spec =

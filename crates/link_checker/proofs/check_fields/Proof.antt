@@ -33,7 +33,7 @@ first-of-requires-4 c κs = search needs
 
 returns : tie.Need-returns
 unfolding checkFields
-returns c = cc
+returns c = rw (c .first-of4 .ensures, c .before .first-of3 .ensures, c .before .before .first-of2 .ensures, c .before .before .before .first-of .ensures, c .before .before .before .before .check-end .ensures, c .before .before .before .before .before .check-items .ensures, c .before .before .before .before .before .before .check-place .ensures, c .before .before .before .before .before .before .before .check-uri .ensures, c .before .before .before .before .before .before .before .before .check-head .ensures)
 
 pub check-fields-spec : {M : Type 1} → statement M
 check-fields-spec =

@@ -39,7 +39,7 @@ first-of-requires-5 c κs = search needs
 
 returns : tie.Need-returns
 unfolding checkHead
-returns c = cc
+returns c = rw (c .first-of5 .ensures, c .before .first-of4 .ensures, c .before .before .first-of3 .ensures, c .before .before .before .first-of2 .ensures, c .before .before .before .before .first-of .ensures, c .before .before .before .before .before .narrow6 .ensures, c .before .before .before .before .before .before .narrow5 .ensures, c .before .before .before .before .before .before .before .narrow4 .ensures, c .before .before .before .before .before .before .before .before .narrow3 .ensures, c .before .before .before .before .before .before .before .before .before .narrow2 .ensures, c .before .before .before .before .before .before .before .before .before .before .narrow .ensures)
 
 pub check-head-spec : {M : Type 1} → statement M
 check-head-spec =

@@ -21,7 +21,7 @@ first-of-requires-2 c κs = search needs
 
 returns : tie.Need-returns
 unfolding checkItems
-returns c = cc
+returns c = rw (c .first-of2 .ensures, c .before .first-of .ensures, c .before .before .check-texts .ensures, c .before .before .before .narrow .ensures, c .before .before .before .before .check .ensures)
 
 pub check-items-spec : {M : Type 1} → statement M
 check-items-spec =

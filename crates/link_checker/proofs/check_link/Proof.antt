@@ -27,7 +27,7 @@ first-of-requires-3 c κs = search needs
 
 returns : tie.Need-returns
 unfolding checkLink
-returns c = cc
+returns c = rw (c .first-of3 .ensures, c .before .first-of2 .ensures, c .before .before .first-of .ensures, c .before .before .before .check-ranges .ensures, c .before .before .before .before .check-rule .ensures, c .before .before .before .before .before .check-fields .ensures, c .before .before .before .before .before .before .check-presence .ensures)
 
 pub check-link-spec : {M : Type 1} → statement M
 check-link-spec =

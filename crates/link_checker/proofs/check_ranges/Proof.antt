@@ -21,7 +21,7 @@ first-of-requires-2 c κs = search needs
 
 returns : tie.Need-returns
 unfolding checkRanges
-returns c = cc
+returns c = rw (c .first-of2 .ensures, c .before .first-of .ensures, c .before .before .check-range .ensures, c .before .before .before .check-text-ranges .ensures, c .before .before .before .before .check-uri-range .ensures)
 
 pub check-ranges-spec : {M : Type 1} → statement M
 check-ranges-spec =

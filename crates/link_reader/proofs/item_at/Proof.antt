@@ -40,7 +40,7 @@ cast-t19 : tie.Need-cast-t19
 cast-t19 c = search needs
 
 returns : tie.Need-returns
-returns c = cc
+returns c = rw (c .wide .ensures .0)
 
 pub item-at-spec : {M : Type 1} → statement M
 item-at-spec =

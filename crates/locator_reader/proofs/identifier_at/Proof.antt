@@ -33,13 +33,13 @@ shared-slice-read-t9 : tie.Need-shared-slice-read-t9
 shared-slice-read-t9 c = omega (arith, simp (ne-eqb _ _ (c .before .before .before .if1 .left), eq-eqb _ _ (c .before .if2 .taken)) at (c .before .before .before .before .before .pre))
 
 returns-2 : tie.Need-returns-2
-returns-2 c = simp (ne-eqb _ _ (c .before .before .before .if1 .left), eq-eqb _ _ (c .before .if2 .taken)) (cc)
+returns-2 c = simp (ne-eqb _ _ (c .before .before .before .if1 .left), eq-eqb _ _ (c .before .if2 .taken)) (rw (c .before .before .be16-at .ensures))
 
 returns-3 : tie.Need-returns-3
-returns-3 c = simp (ne-eqb _ _ (c .before .before .before .if1 .left), ne-eqb _ _ (c .before .if2 .left), eq-eqb _ _ (c .if3 .taken)) (cc)
+returns-3 c = simp (ne-eqb _ _ (c .before .before .before .if1 .left), ne-eqb _ _ (c .before .if2 .left), eq-eqb _ _ (c .if3 .taken)) (rw (c .before .before .be16-at .ensures))
 
 returns-4 : tie.Need-returns-4
-returns-4 c = simp (ne-eqb _ _ (c .before .before .before .if1 .left), ne-eqb _ _ (c .before .if2 .left), ne-eqb _ _ (c .if3 .left)) (cc)
+returns-4 c = simp (ne-eqb _ _ (c .before .before .before .if1 .left), ne-eqb _ _ (c .before .if2 .left), ne-eqb _ _ (c .if3 .left)) (rw (c .before .before .be16-at .ensures))
 
 pub identifier-at-spec : {M : Type 1} → statement M
 identifier-at-spec = tie.close (tie.spec returns be16-at-requires add-t7 shared-slice-read-t9 returns-2 returns-3 returns-4)

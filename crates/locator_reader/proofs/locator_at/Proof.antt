@@ -37,7 +37,7 @@ windows-at-requires : tie.Need-windows-at-requires
 windows-at-requires c κs = search needs
 
 returns : tie.Need-returns
-returns c = cc
+returns c = rw (c .windows-at .ensures, c .before .identifier-at .ensures, c .before .before .be16-at2 .ensures, c .before .before .before .be16-at .ensures, c .before .before .before .before .service-at .ensures, c .before .before .before .before .before .low2 .ensures, c .before .before .before .before .before .before .low .ensures, c .before .before .before .before .before .before .before .reliable .ensures)
 
 pub locator-at-spec : {M : Type 1} → statement M
 locator-at-spec = tie.close (tie.spec reliable-requires low-requires low-requires-2 service-at-requires be16-at-requires add-be16-at be16-at-requires-2 add-identifier-at identifier-at-requires add-windows-at windows-at-requires returns)

@@ -54,7 +54,7 @@ locator-at-requires c κs = search needs
 
 returns-5 : tie.Need-returns-5
 unfolding readLocator locatorVerdict sizeAt locatorAt refuse _▷_
-returns-5 c = simp (le-ltb _ _ (c .before .before .before .before .before .before .before .if1 .left), ← c .before .before .before .before .before .before .be16-at .ensures, ← c .before .before .before .before .before .service-end .ensures .0, ← c .before .before .tail-length .ensures .0, le-ltb _ _ (c .before .before .before .before .if2 .left), le-ltb _ _ (c .before .before .before .if3 .left), le-ltb _ _ (c .before .if4 .left)) (cc)
+returns-5 c = simp (le-ltb _ _ (c .before .before .before .before .before .before .before .if1 .left), ← c .before .before .before .before .before .before .be16-at .ensures, ← c .before .before .before .before .before .service-end .ensures .0, ← c .before .before .tail-length .ensures .0, le-ltb _ _ (c .before .before .before .before .if2 .left), le-ltb _ _ (c .before .before .before .if3 .left), le-ltb _ _ (c .before .if4 .left)) (rw (c .locator-at .ensures))
 
 pub read-locator-spec : {M : Type 1} → statement M
 read-locator-spec = tie.close (tie.spec cut-requires returns be16-at-requires service-end-requires cut-requires-2 returns-2 add-tail cut-requires-3 returns-3 tail-length-requires add-used cut-requires-4 returns-4 locator-at-requires returns-5)

@@ -26,10 +26,10 @@ low-requires-2 : tie.Need-low-requires-2
 low-requires-2 c κs = search needs
 
 returns : tie.Need-returns
-returns c = simp (← c .before .before .before .before .before .inline .ensures, c .before .before .before .before .if1 .taken) (cc)
+returns c = simp (← c .before .before .before .before .before .inline .ensures, c .before .before .before .before .if1 .taken) (rw (c .be16-at3 .ensures, c .before .be16-at2 .ensures, c .before .before .be16-at .ensures, c .before .before .before .low .ensures))
 
 returns-2 : tie.Need-returns-2
-returns-2 c = simp (← c .before .before .before .inline .ensures, c .before .before .if1 .left) (cc)
+returns-2 c = simp (← c .before .before .before .inline .ensures, c .before .before .if1 .left) (rw (c .low2 .ensures, c .before .be16-at4 .ensures))
 
 pub service-at-spec : {M : Type 1} → statement M
 service-at-spec = tie.close (tie.spec inline-requires low-requires be16-at-requires be16-at-requires-2 be16-at-requires-3 be16-at-requires-4 low-requires-2 returns returns-2)

@@ -20,7 +20,7 @@ low-requires-2 : tie.Need-low-requires-2
 low-requires-2 c κs = search needs
 
 returns : tie.Need-returns
-returns c = simp (← c .before .before .before .before .windows-due .ensures, c .before .before .before .if1 .taken) (cc)
+returns c = simp (← c .before .before .before .before .windows-due .ensures, c .before .before .before .if1 .taken) (rw (c .low2 .ensures, c .before .low .ensures))
 
 returns-2 : tie.Need-returns-2
 returns-2 c = simp (← c .before .windows-due .ensures, c .if1 .left)

@@ -1,4 +1,6 @@
 -- `head` meets its contract. Assumes nothing.
+use mathlib.Core.Path.{_∙_, ap}
+use Rattle.wire.specs.Choice.{bit}
 use borrow.Author.Needs.{needs}
 use Rattle.locator_writer.proofs.head.Statement.{statement}
 use Rattle.locator_writer.proofs.head.Tie as tie
@@ -55,7 +57,7 @@ add-result-5 : tie.Need-add-result-5
 add-result-5 c = search needs
 
 returns : tie.Need-returns
-returns c = cc
+returns c = rw (c .last-bits .ensures .0, c .before .before .before .flag2 .ensures .0 ∙ ap bit (c .before .before .before .before .inline-service .ensures), c .before .before .before .before .before .flag .ensures .0, c .before .before .before .before .before .before .identifier-type .ensures .0)
 
 pub head-spec : {M : Type 1} → statement M
 head-spec = tie.close (tie.spec identifier-type-requires mul-result flag-requires cast-result mul-result-2 add-result inline-service-requires flag-requires-2 cast-result-2 mul-result-3 add-result-2 mul-result-4 add-result-3 mul-result-5 add-result-4 last-bits-requires add-result-5 returns)

@@ -30,7 +30,7 @@ first-of-requires-2 c κs = search needs
 
 returns : tie.Need-returns
 unfolding checkHeader
-returns c = cc
+returns c = rw (c .first-of2 .ensures, c .before .first-of .ensures, c .before .before .check3 .ensures, c .before .before .before .before .check2 .ensures, c .before .before .before .before .before .before .check .ensures)
 
 pub check-header-spec : {M : Type 1} → statement M
 check-header-spec =

@@ -21,7 +21,7 @@ first-of-requires-2 c κs = search needs
 
 returns : tie.Need-returns
 unfolding checkMaking
-returns c = cc
+returns c = rw (c .first-of2 .ensures, c .before .check-header .ensures, c .before .before .first-of .ensures, c .before .before .before .check-range .ensures, c .before .before .before .before .check-loop .ensures)
 
 pub check-making-spec : {M : Type 1} → statement M
 check-making-spec =

@@ -33,7 +33,7 @@ first-of-requires-3 c κs = search needs
 
 returns : tie.Need-returns
 unfolding checkFields
-returns c = cc
+returns c = rw (c .first-of3 .ensures, c .before .first-of2 .ensures, c .before .before .check2 .ensures, c .before .before .before .before .check .ensures, c .before .before .before .before .before .before .first-of .ensures, c .before .before .before .before .before .before .before .check-widths .ensures, c .before .before .before .before .before .before .before .before .check-service .ensures)
 
 pub check-fields-spec : {M : Type 1} → statement M
 check-fields-spec = tie.close (tie.spec check-service-requires check-widths-requires first-of-requires cast-check check-requires cast-check-2 check-requires-2 first-of-requires-2 first-of-requires-3 returns)

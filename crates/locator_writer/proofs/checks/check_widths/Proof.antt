@@ -28,7 +28,7 @@ returns : tie.Need-returns
 returns c = search needs
 
 returns-2 : tie.Need-returns-2
-returns-2 c = rw (c .before .before .before .before .windows .given .1) (cc)
+returns-2 c = rw (c .before .before .before .before .windows .given .1) (rw (c .first-of .ensures, c .before .check2 .ensures, c .before .before .check .ensures))
 
 pub check-widths-spec : {M : Type 1} → statement M
 check-widths-spec = tie.close (tie.spec enum-told enum-known-windows cast-check check-requires cast-check-2 check-requires-2 first-of-requires returns returns-2)

@@ -75,7 +75,7 @@ pub fn loop_descriptors(s: &[u8]) -> &[u8]
     ensures { λ r. ⌜ now r ≡ rangeOf (now (s .entry)) (sectionRead (plain (now (s .entry))) (now (s .entry)) .descriptors) ⌝ }
     ensures { λ r. ⌜ r .ptr ≡ within (s .entry .ptr) (sectionRead (plain (now (s .entry))) (now (s .entry)) .descriptors .start) ⌝ }
 {
-    let read = reader::read_section(s);
+    let read = section_reader::read_section(s);
     let start = read.descriptors.start as usize;
     let end = start + (read.descriptors.length as usize);
     &s[start..end]

@@ -121,9 +121,9 @@ fn put_read(out: &mut [u8], n: usize, b: &[u8], r: RctSection) -> usize {
 
 fn read(b: &[u8], is_checked: bool) -> RctSection {
     if is_checked {
-        reader::check_section(b)
+        section_reader::check_section(b)
     } else {
-        reader::read_section(b)
+        section_reader::read_section(b)
     }
 }
 

@@ -79,7 +79,7 @@ fn show_links(s: &[u8], count: usize) {
 }
 
 fn list(s: &[u8]) {
-    let r = reader::read_section(s);
+    let r = section_reader::read_section(s);
     let verdict = r.verdict;
     match verdict {
         Verdict::Refused(refusal) => show_refusal(refusal),

@@ -6,10 +6,6 @@ use Rattle.reader.proofs.locate.Kinds as locate-kinds
 use Rattle.reader.proofs.locate.Reads as locate-reads
 use Rattle.reader.proofs.find.Kinds as find-kinds
 use Rattle.reader.proofs.find.Reads as find-reads
-use Rattle.reader.proofs.read_section.Kinds as read-section-kinds
-use Rattle.reader.proofs.read_section.Reads as read-section-reads
-use Rattle.reader.proofs.check_section.Kinds as check-section-kinds
-use Rattle.reader.proofs.check_section.Reads as check-section-reads
 use Rattle.reader.proofs.entry.read_entry.Kinds as read-entry-kinds
 use Rattle.reader.proofs.entry.read_entry.Reads as read-entry-reads
 
@@ -18,12 +14,6 @@ locate-one = record { total = λ κs a. tt; one = λ κs a x y v w p q. (both p 
 
 pub find-one : One find-kinds.ps find-kinds.r find-reads.Asked find-reads.Learnt
 find-one = record { total = λ κs a. tt; one = λ κs a x y v w p q. (both p q, refl) }
-
-pub read-section-one : One read-section-kinds.ps read-section-kinds.r read-section-reads.Asked read-section-reads.Learnt
-read-section-one = record { total = λ κs a. tt; one = λ κs a x y v w p q. (both p q, refl) }
-
-pub check-section-one : One check-section-kinds.ps check-section-kinds.r check-section-reads.Asked check-section-reads.Learnt
-check-section-one = record { total = λ κs a. tt; one = λ κs a x y v w p q. (both p q, refl) }
 
 pub read-entry-one : One read-entry-kinds.ps read-entry-kinds.r read-entry-reads.Asked read-entry-reads.Learnt
 read-entry-one = record { total = λ κs a. tt; one = λ κs a x y v w p q. (both p q, refl) }

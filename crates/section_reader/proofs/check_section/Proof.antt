@@ -4,11 +4,11 @@ use native.Mathlib.Omega.{arith}
 use Rattle.wire.proofs.Parts.{bytes-known}
 use Rattle.section.specs.Syntax.{limit}
 use Rattle.section.proofs.Accepted.{accepted}
 use Rattle.reader.specs.Sections.{sectionRead}
 use Rattle.reader.proofs.Entries.{checked-reading, located-at, located-stop}
 use borrow.Author.Needs.{needs}
-use Rattle.reader.proofs.check_section.Statement.{statement}
-use Rattle.reader.proofs.check_section.Tie as tie
+use Rattle.section_reader.proofs.check_section.Statement.{statement}
+use Rattle.section_reader.proofs.check_section.Tie as tie
 
 locate-requires : tie.Need-locate-requires
 locate-requires c κs = search needs

@@ -3,10 +3,10 @@ use Prim.Native.Nat.{_+_}
 use mathlib.Core.Path.{ap}
 use native.Mathlib.Omega.{arith}
 use Rattle.wire.specs.declared.lengths.LengthField.{LengthField}
 use Rattle.reader.specs.Sections.{sectionRead}
 use borrow.Author.Needs.{needs}
-use Rattle.reader.proofs.section_at.Statement.{statement}
-use Rattle.reader.proofs.section_at.Tie as tie
+use Rattle.section_reader.proofs.section_at.Statement.{statement}
+use Rattle.section_reader.proofs.section_at.Tie as tie
 
 shared-slice-read-of-bytes : tie.Need-shared-slice-read-of-bytes
 shared-slice-read-of-bytes c = search needs

@@ -4,11 +4,11 @@ use native.Mathlib.Omega.{arith}
 use Rattle.wire.proofs.Parts.{bytes-known}
 use Rattle.wire.specs.Lengths.{longest}
 use Rattle.section.proofs.Accepted.{accepted}
 use Rattle.reader.specs.Sections.{sectionRead}
 use Rattle.reader.proofs.Entries.{located-at, located-stop}
 use borrow.Author.Needs.{needs}
-use Rattle.reader.proofs.read_section.Statement.{statement}
-use Rattle.reader.proofs.read_section.Tie as tie
+use Rattle.section_reader.proofs.read_section.Statement.{statement}
+use Rattle.section_reader.proofs.read_section.Tie as tie
 
 find-requires : tie.Need-find-requires
 find-requires c κs = search needs

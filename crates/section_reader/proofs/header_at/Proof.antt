@@ -1,8 +1,8 @@
 -- `header_at` meets its contract. Assumes nothing.
 use native.Mathlib.Omega.{arith}
 use borrow.Author.Needs.{needs}
-use Rattle.reader.proofs.header_at.Statement.{statement}
-use Rattle.reader.proofs.header_at.Tie as tie
+use Rattle.section_reader.proofs.header_at.Statement.{statement}
+use Rattle.section_reader.proofs.header_at.Tie as tie
 
 shared-slice-read-of-bytes : tie.Need-shared-slice-read-of-bytes
 shared-slice-read-of-bytes c = search needs

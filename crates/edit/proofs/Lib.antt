@@ -10,4 +10,5 @@ pub mod Assembled
 pub mod Outcomes
 pub mod Stores
 pub mod Narrow
+pub mod Carriers
 pub mod Unique

@@ -1,4 +1,4 @@
-// What the calls share: places, answers, the checks of the new lengths, and the CRC.
+// What the calls share: answers, the checks of the new lengths, and the CRC.
 ghost use mathlib.Core.Path.{_≡_};
 ghost use Rattle.edit.specs.Answers.{refusedWith, acceptedWith};
 ghost use Rattle.edit.specs.Steps.{roomRows, sealAt, sealEnd};
@@ -8,12 +8,6 @@ use section::RctHeader;
 use wire::lengths::LengthField;
 use wire::verdict::Refusal;
 use wire::verdict::Verdict;
-
-// The bytes of a 12-bit length with the four bits beside it.
-pub const LENGTH_BYTES: usize = 2;
-
-// The place of the number of links.
-pub const COUNT_AT: usize = 10;
 
 // The answers: a verdict that refuses, with total 0; or fine, with the total.
 pub fn refused(verdict: Verdict) -> Edited

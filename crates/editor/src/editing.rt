@@ -7,6 +7,7 @@ use edit::Edited;
 use edit::steps;
 use link::LinkInfo;
 use reader::Located;
+use section::RctHeader;
 use wire::verdict::Refusal;
 use wire::verdict::Verdict;
 
@@ -23,7 +24,7 @@ pub fn append(b: &mut [u8], text: &[u8], link: LinkInfo) -> Edited
             link_end: _,
             loop_at,
         } => {
-            let count = wire::wide(b[steps::COUNT_AT]);
+            let count = wire::wide(b[RctHeader::COUNT_AT]);
             if edit::most_links() <= count {
                 return steps::refused(Verdict::Refused(Refusal {
                     number: 30,
@@ -49,7 +50,7 @@ pub fn replace(b: &mut [u8], number: usize, text: &[u8], link: LinkInfo) -> Edit
             link_end,
             loop_at: _,
         } => {
-            let count = wire::wide(b[steps::COUNT_AT]);
+            let count = wire::wide(b[RctHeader::COUNT_AT]);
             if count <= number {
                 return steps::refused(Verdict::Refused(Refusal {
                     number: 21,

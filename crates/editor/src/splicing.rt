@@ -43,7 +43,7 @@ pub(crate) fn put_between(
     };
     let total = frame::total(b[1], b[2]);
     let body = lengths::link_length(link);
-    let section_length = total - Table::UNCOUNTED - (to - from) + steps::LENGTH_BYTES + body;
+    let section_length = total - Table::UNCOUNTED - (to - from) + LengthField::BYTES + body;
     let room = steps::check_room(b.len(), body, section_length);
     let Verdict::Fine = room else {
         return steps::refused(room);
@@ -69,7 +69,7 @@ fn splice(
 {
     let total = frame::total(b[1], b[2]);
     let body = lengths::link_length(link);
-    let behind = from + steps::LENGTH_BYTES + body;
+    let behind = from + LengthField::BYTES + body;
     let end = frame::payload_end(total);
     move_tail(b, to, behind, end - to);
     put_entry(b, from, text, link);
@@ -98,7 +98,7 @@ fn put_entry(b: &mut [u8], at: usize, text: &[u8], link: LinkInfo)
     };
     let bytes = field.to_bytes();
     wire::put_at(b, at, &bytes);
-    link_writer::write_link(b, at + steps::LENGTH_BYTES, text, link);
+    link_writer::write_link(b, at + LengthField::BYTES, text, link);
 }
 
 // section_length anew, the four bits beside it kept, and the number of links.
@@ -114,7 +114,7 @@ fn put_numbers(b: &mut [u8], section_length: usize, count: usize)
     let bytes = field.to_bytes();
     b[1] = bytes[0];
     b[2] = bytes[1];
-    b[steps::COUNT_AT] = count as u8;
+    b[RctHeader::COUNT_AT] = count as u8;
 }
 
 // The bytes from a new end up to the old one become filler.

@@ -9,6 +9,7 @@ use link::LinkInfo;
 use link::reading::ItemRead;
 use link::reading::LinkRead;
 use reader::Located;
+use section::RctHeader;
 use wire::lengths::LengthField;
 use wire::verdict::Refusal;
 use wire::verdict::Verdict;
@@ -26,7 +27,7 @@ fn numbered(s: &[u8], number: usize) -> Located
             link_end,
             loop_at,
         } => {
-            let count = wire::wide(s[10]);
+            let count = wire::wide(s[RctHeader::COUNT_AT]);
             if count <= number {
                 return Located::Refused(Refusal {
                     number: 21,
@@ -65,7 +66,7 @@ pub fn read_link(s: &[u8], number: usize) -> LinkRead
             link_end,
             loop_at: _,
         } => {
-            let start = link_at + 2;
+            let start = link_at + LengthField::BYTES;
             let field = LengthField::of_bytes(s[link_at], s[link_at + 1]);
             link_reader::read_link(&s[start..link_end], start as u16, field.beside as u16)
         }
@@ -84,7 +85,7 @@ pub fn read_item(s: &[u8], number: usize, item: usize) -> ItemRead
             link_end,
             loop_at: _,
         } => {
-            let start = link_at + 2;
+            let start = link_at + LengthField::BYTES;
             link_reader::read_item(&s[start..link_end], start as u16, item)
         }
         Located::Refused(r) => ItemRead::Refused(r),

@@ -11,6 +11,7 @@ ghost use Rattle.reader.specs.Sections.{sectionRead};
 ghost use Rattle.reader.specs.Parts.{bodySpan, bodyOf, spanOf};
 use link::parts::Span;
 use reader::Located;
+use wire::lengths::LengthField;
 
 fn body_span(s: &[u8], number: usize) -> Span
     ensures { λ r. ⌜ (r ≡ bodySpan (now (s .entry)) number) × (r .start + r .length ≤ length (now (s .entry))) ⌝ }
@@ -22,7 +23,7 @@ fn body_span(s: &[u8], number: usize) -> Span
             link_end,
             loop_at: _,
         } => {
-            let start = link_at + 2;
+            let start = link_at + LengthField::BYTES;
             Span {
                 start,
                 length: link_end - start,

@@ -9,6 +9,7 @@ use field::Field;
 use link::parts::Span;
 use link::reading::ItemRead;
 use link_reader::BodyPlaces;
+use wire::lengths::LengthField;
 
 fn uri_span(s: &[u8]) -> Span
     ensures { λ r. ⌜ (r ≡ uriSpan (now (s .entry))) × (r .start + r .length ≤ length (now (s .entry))) ⌝ }
@@ -67,7 +68,7 @@ fn descriptor_span(s: &[u8]) -> Span
             count_at: _,
             tail,
         } => {
-            let start = tail + 2;
+            let start = tail + LengthField::BYTES;
             Span {
                 start,
                 length: s.len() - start,

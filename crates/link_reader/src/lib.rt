@@ -201,16 +201,16 @@ fn tail_verdict(s: &[u8], p: usize) -> Verdict
     ensures { λ r. ⌜ r ≡ lastVerdict 14 15 16 (now (s .entry)) (length (now (s .entry))) p ⌝ }
 {
     let have = s.len();
-    if have < p + 2 {
+    if have < p + LengthField::BYTES {
         return Verdict::Refused(Refusal {
             number: 14,
-            first: p + 2,
+            first: p + LengthField::BYTES,
             second: have,
         });
     }
     let field = LengthField::of_bytes(s[p], s[p + 1]);
     let declared = field.length;
-    let available = have - (p + 2);
+    let available = have - (p + LengthField::BYTES);
     if available < declared {
         return Verdict::Refused(Refusal {
             number: 15,
@@ -416,7 +416,7 @@ fn info_at(
     let count = s[count_at];
     let field = LengthField::of_bytes(s[tail], s[tail + 1]);
     let descriptors = Range {
-        start: ((base as usize) + (tail + 2)) as u32,
+        start: ((base as usize) + (tail + LengthField::BYTES)) as u32,
         length: field.length as u32,
     };
     LinkInfo {

@@ -136,7 +136,7 @@ fn put_loop(b: &mut [u8], reserved: u16, text: &[u8], range: Range) -> usize
         length,
     };
     let bytes = field.to_bytes();
-    let at = RctHeader::HEAD + steps::LENGTH_BYTES;
+    let at = RctHeader::HEAD + LengthField::BYTES;
     wire::put_at(b, RctHeader::HEAD, &bytes);
     wire::put_at(b, at, &text[start..end]);
     at + length

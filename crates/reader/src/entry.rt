@@ -27,7 +27,7 @@ fn link_at(s: &[u8], p: usize, next: usize) -> LinkRead
     requires { ⌜ (next ≡ blockEnd (now s) p) × ((next ≤ length (now s)) × (next ≤ 65535)) ⌝ }
     ensures { λ r. ⌜ r ≡ linkRead (p + 2) (besideAt (now (s .entry)) p) (bodyIn (now (s .entry)) p) ⌝ }
 {
-    let start = p + 2;
+    let start = p + LengthField::BYTES;
     let field = LengthField::of_bytes(s[p], s[p + 1]);
     link_reader::read_link(&s[start..next], start as u16, field.beside as u16)
 }

@@ -28,7 +28,7 @@ pub(crate) fn past_length(s: &[u8], e: usize, p: usize) -> Step
     requires { ⌜ (e ≤ length (now s)) × (p ≤ 65535) ⌝ }
     ensures { λ r. ⌜ r ≡ stepTo (blockVerdict 4 5 (now (s .entry)) e p) (blockEnd (now (s .entry)) p) ⌝ }
 {
-    let start = p + 2;
+    let start = p + LengthField::BYTES;
     if e < start {
         return Step::Stop(Refusal {
             number: 4,
@@ -56,7 +56,7 @@ fn past_entry(s: &[u8], e: usize, p: usize) -> Step
     let end = past_length(s, e, p);
     match end {
         Step::At(next) => {
-            let start = p + 2;
+            let start = p + LengthField::BYTES;
             let v = link_reader::check_body(&s[start..next]);
             match v {
                 Verdict::Fine => Step::At(next),
@@ -109,7 +109,7 @@ fn loop_verdict(s: &[u8], e: usize, p: usize) -> Verdict
     requires { ⌜ (p ≤ e) × (e ≤ length (now s)) ⌝ }
     ensures { λ r. ⌜ r ≡ loopVerdict (now (s .entry)) e p ⌝ }
 {
-    let start = p + 2;
+    let start = p + LengthField::BYTES;
     if e < start {
         return Verdict::Refused(Refusal {
             number: 17,
@@ -159,7 +159,7 @@ pub(crate) fn read_places(s: &[u8], most: usize, number: usize) -> Located
     let front = past_front(s, most);
     match front {
         Step::At(e) => {
-            let links = past_links(s, wire::wide(s[10]), e, number);
+            let links = past_links(s, wire::wide(s[RctHeader::COUNT_AT]), e, number);
             match links {
                 Located::At {
                     link_at,

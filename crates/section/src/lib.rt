@@ -28,7 +28,9 @@ impl RctHeader {
     // The greatest section_length that is written, and that a checked reading takes.
     pub const LIMIT: usize = LengthField::LONGEST;
 
-    // The bytes before the first link.
+    // The place of the number of links, and the bytes before the first link.
+    pub const COUNT_AT: usize = 10;
+
     pub const HEAD: usize = 11;
 
     // Another table's section is refused with 2.

@@ -43,7 +43,7 @@ fn section_at(s: &[u8], loop_at: usize) -> RctSection
     let field = LengthField::of_bytes(s[loop_at], s[loop_at + 1]);
     let header = header_at(s);
     let total = frame::total(s[1], s[2]);
-    let number_of_links = wire::wide(s[10]);
+    let number_of_links = wire::wide(s[RctHeader::COUNT_AT]);
     RctSection {
         verdict: Verdict::Fine,
         total,
@@ -51,7 +51,7 @@ fn section_at(s: &[u8], loop_at: usize) -> RctSection
         number_of_links,
         reserved_descriptor_loop_length: field.beside as u16,
         descriptors: Range {
-            start: (loop_at + 2) as u32,
+            start: (loop_at + LengthField::BYTES) as u32,
             length: field.length as u32,
         },
     }

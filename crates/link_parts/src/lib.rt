@@ -81,15 +81,23 @@ fn descriptor_span(s: &[u8]) -> Span
     }
 }
 
+// The part of the body that a span says.
+fn handed(s: &[u8], span: Span) -> &[u8]
+    requires { ⌜ span .start + span .length ≤ length (now s) ⌝ }
+    ensures { λ r. ⌜ now r ≡ part (now (s .entry)) (span .start) (span .length) ⌝ }
+    ensures { λ r. ⌜ r .ptr ≡ within (s .entry .ptr) (span .start) ⌝ }
+{
+    let start = span.start;
+    let end = start + span.length;
+    &s[start..end]
+}
+
 // The URI.
 pub fn media_uri(s: &[u8]) -> &[u8]
     ensures { λ r. ⌜ now r ≡ part (now (s .entry)) (uriSpan (now (s .entry)) .start) (uriSpan (now (s .entry)) .length) ⌝ }
     ensures { λ r. ⌜ r .ptr ≡ within (s .entry .ptr) (uriSpan (now (s .entry)) .start) ⌝ }
 {
-    let span = uri_span(s);
-    let start = span.start;
-    let end = start + span.length;
-    &s[start..end]
+    handed(s, uri_span(s))
 }
 
 // The promotional text of an item by number.
@@ -97,10 +105,7 @@ pub fn promotional_text(s: &[u8], number: usize) -> &[u8]
     ensures { λ r. ⌜ now r ≡ part (now (s .entry)) (textSpan (now (s .entry)) number .start) (textSpan (now (s .entry)) number .length) ⌝ }
     ensures { λ r. ⌜ r .ptr ≡ within (s .entry .ptr) (textSpan (now (s .entry)) number .start) ⌝ }
 {
-    let span = text_span(s, number);
-    let start = span.start;
-    let end = start + span.length;
-    &s[start..end]
+    handed(s, text_span(s, number))
 }
 
 // The link's descriptors.
@@ -108,8 +113,5 @@ pub fn descriptors(s: &[u8]) -> &[u8]
     ensures { λ r. ⌜ now r ≡ part (now (s .entry)) (descriptorSpan (now (s .entry)) .start) (descriptorSpan (now (s .entry)) .length) ⌝ }
     ensures { λ r. ⌜ r .ptr ≡ within (s .entry .ptr) (descriptorSpan (now (s .entry)) .start) ⌝ }
 {
-    let span = descriptor_span(s);
-    let start = span.start;
-    let end = start + span.length;
-    &s[start..end]
+    handed(s, descriptor_span(s))
 }

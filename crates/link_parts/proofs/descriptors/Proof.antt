@@ -1,7 +1,4 @@
 -- `descriptors` meets its contract. Assumes nothing.
-use Prim.Native.Nat.{_+_, _-_}
-use mathlib.Core.Path.{_≡_, refl}
-use native.Mathlib.Omega.{arith}
 use borrow.Author.Needs.{needs}
 use Rattle.link_parts.proofs.descriptors.Statement.{statement}
 use Rattle.link_parts.proofs.descriptors.Tie as tie
@@ -9,32 +6,11 @@ use Rattle.link_parts.proofs.descriptors.Tie as tie
 descriptor-span-requires : tie.Need-descriptor-span-requires
 descriptor-span-requires c κs = search needs
 
-add-end : tie.Need-add-end
-add-end c = search needs
-
-sub-result : tie.Need-sub-result
-sub-result c = search needs
-
-part-result-start : tie.Need-part-result-start
-part-result-start c = search needs
-
-part-result-end : tie.Need-part-result-end
-part-result-end c = search needs
+handed-requires : tie.Need-handed-requires
+handed-requires c κs = search needs
 
 returns : tie.Need-returns
-returns c =
-    let r = c .before .before .descriptor-span .result in
-    let n : r .start + r .length - r .start ≡ r .length = omega arith in
-    let e = c .before .before .descriptor-span .ensures .0 in
-    rw (n, e) (refl, refl)
+returns c = rw (c .before .descriptor-span .ensures .0) at (c .handed .ensures)
 
 pub descriptors-spec : {M : Type 1} → statement M
-descriptors-spec =
-    tie.close
-    (tie.spec
-    descriptor-span-requires
-    add-end
-    sub-result
-    part-result-start
-    part-result-end
-    returns)
+descriptors-spec = tie.close (tie.spec descriptor-span-requires handed-requires returns)

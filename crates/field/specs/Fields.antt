@@ -7,6 +7,7 @@ use lib.Dec.{eqb, ltb, leb}
 use lib.ListN.{length, getD}
 use Rattle.wire.specs.Choice.{pick}
 use Rattle.wire.specs.Lengths.{longest, widestBeside}
+use Rattle.wire.specs.Refusals.{tooWide}
 use Rattle.wire.specs.Verdict.{refuse}
 use Rattle.field.specs.declared.Field.{Field}
 use Rattle.field.specs.declared.Listed.{Listed}
@@ -147,7 +148,7 @@ listedAt p = pick (eqb p 0) Nothing (pick (leb (length fields) (p - 1)) Nothing 
 
 -- fine, or 22 with the field's place and the number that is too wide for it
 unfoldable pub checkField : Field → ℕ → Verdict
-checkField f n = refuse (ltb (f .widest) n) 22 (f .place) n
+checkField f n = refuse (ltb (f .widest) n) tooWide (f .place) n
 
 -- the lowest bits of a number, as many as the field has
 abbrev pub low : Field → ℕ → ℕ

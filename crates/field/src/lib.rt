@@ -189,7 +189,7 @@ impl Field {
     {
         if self.widest < number {
             return Verdict::Refused(Refusal {
-                number: 22,
+                number: Refusal::TOO_WIDE,
                 first: self.place,
                 second: number,
             });

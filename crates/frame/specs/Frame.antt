@@ -6,6 +6,7 @@ use mathlib.Core.List.{List}
 use lib.Dec.{ltb, eqb}
 use lib.ListN.{length, getD}
 use Rattle.wire.specs.Lengths.{lengthOf, lengthAt}
+use Rattle.wire.specs.Refusals.{tooShort, wrongLength, sectionTooLong}
 use Rattle.wire.specs.Verdict.{refuse, _▷_}
 use Rattle.wire.specs.declared.verdict.Verdict.{Verdict}
 use Rattle.frame.specs.declared.Table.{Table}
@@ -38,8 +39,8 @@ payloadEnd xs = totalOf xs - crcLength
 -- the verdict on what stands in front, for a table and for the greatest section_length that is taken
 unfoldable pub opened : Table → ℕ → List ℕ → Verdict
 opened t most xs =
-    refuse (ltb (length xs) (least t)) 1 (least t) (length xs)
+    refuse (ltb (length xs) (least t)) tooShort (least t) (length xs)
     ▷ refuse (not (eqb (getD xs 0 0) (t .id))) (t .other) (t .id) (getD xs 0 0)
-    ▷ refuse (ltb (totalOf xs) (least t)) 3 (declared xs) (length xs)
-    ▷ refuse (ltb (length xs) (totalOf xs)) 3 (declared xs) (length xs)
-    ▷ refuse (ltb most (declared xs)) 28 (declared xs) most
+    ▷ refuse (ltb (totalOf xs) (least t)) wrongLength (declared xs) (length xs)
+    ▷ refuse (ltb (length xs) (totalOf xs)) wrongLength (declared xs) (length xs)
+    ▷ refuse (ltb most (declared xs)) sectionTooLong (declared xs) most

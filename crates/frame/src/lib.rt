@@ -62,7 +62,7 @@ pub fn open(s: &[u8], t: Table, most: usize) -> Verdict
 {
     let least = t.least();
     if s.len() < least {
-        return refused(1, least, s.len());
+        return refused(Refusal::TOO_SHORT, least, s.len());
     }
     let id = s[0];
     if id != t.id {
@@ -71,13 +71,13 @@ pub fn open(s: &[u8], t: Table, most: usize) -> Verdict
     let total = total(s[1], s[2]);
     let length = total - Table::UNCOUNTED;
     if total < least {
-        return refused(3, length, s.len());
+        return refused(Refusal::WRONG_LENGTH, length, s.len());
     }
     if s.len() < total {
-        return refused(3, length, s.len());
+        return refused(Refusal::WRONG_LENGTH, length, s.len());
     }
     if most < length {
-        return refused(28, length, most);
+        return refused(Refusal::SECTION_TOO_LONG, length, most);
     }
     Verdict::Fine
 }

@@ -44,7 +44,7 @@ fn show_refusal(r: Refusal) {
 fn list(body: &[u8]) {
     let mut place: usize = 0;
     for _ in 0..LinkInfo::MOST_ITEMS + 1 {
-        let step = items::step_from(body, place);
+        let step = link_items::step_from(body, place);
         let item = step.item;
         match item {
             ItemRead::Got(i) => show_item(place, i),

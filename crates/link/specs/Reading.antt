@@ -13,6 +13,7 @@ use Rattle.wire.specs.Lists.{part}
 use Rattle.field.specs.Fields.{low, howRelated, termId, linkType, linkTypeReserved, groupId, precedence, numberItems, numberItemsReserved, iconId}
 use Rattle.wire.specs.Lengths.{lengthAt, besideAt, lastVerdict}
 use Rattle.wire.specs.Numbers.{be16}
+use Rattle.wire.specs.Refusals.{bodyTooShort, uriLengthCut, uriCut, noLocator, itemCountCut, itemCut, textCut, iconCut, descriptorsTooLong, linkSlack}
 use Rattle.wire.specs.Verdict.{refuse, _▷_}
 use Rattle.wire.specs.declared.verdict.Verdict.{Verdict}
 use Rattle.wire.specs.declared.verdict.Verdict.the-variants.{Fine, Refused}
@@ -99,21 +100,21 @@ iconIdAt xs = low iconId (besideAt xs (tailPlace xs))
 unfoldable pub uriVerdict : List ℕ → Verdict
 uriVerdict xs =
     pick (uriDue (typeAt xs))
-    (refuse (ltb (length xs) 5) 7 5 (length xs) ▷ refuse (ltb (length xs) (5 + getD xs 4 0)) 8 (5 + getD xs 4 0) (length xs))
+    (refuse (ltb (length xs) 5) uriLengthCut 5 (length xs) ▷ refuse (ltb (length xs) (5 + getD xs 4 0)) uriCut (5 + getD xs 4 0) (length xs))
     Fine
 
 unfoldable pub placeVerdict : List ℕ → Verdict
 placeVerdict xs =
     pick (locatorDue (typeAt xs))
-    (refuse (ltb (length xs) (uriEnd xs + 1)) 9 (uriEnd xs + 1) (length xs) ▷ locatorSaid (locatorIn xs))
+    (refuse (ltb (length xs) (uriEnd xs + 1)) noLocator (uriEnd xs + 1) (length xs) ▷ locatorSaid (locatorIn xs))
     Fine
 
 unfoldable pub countVerdict : List ℕ → Verdict
-countVerdict xs = refuse (ltb (length xs) (countPlace xs + 1)) 11 (countPlace xs + 1) (length xs)
+countVerdict xs = refuse (ltb (length xs) (countPlace xs + 1)) itemCountCut (countPlace xs + 1) (length xs)
 
 unfoldable pub itemVerdict : List ℕ → ℕ → Verdict
 itemVerdict xs p =
-    refuse (ltb (length xs) (p + 4)) 12 (p + 4) (length xs) ▷ refuse (ltb (length xs) (itemEnd xs p)) 13 (itemEnd xs p) (length xs)
+    refuse (ltb (length xs) (p + 4)) itemCut (p + 4) (length xs) ▷ refuse (ltb (length xs) (itemEnd xs p)) textCut (itemEnd xs p) (length xs)
 
 unfoldable pub itemsVerdict : ℕ → List ℕ → ℕ → Verdict
 itemsVerdict zero xs p = Fine
@@ -121,11 +122,11 @@ itemsVerdict (suc n) xs p = itemVerdict xs p ▷ itemsVerdict n xs (itemEnd xs p
 
 -- what stands before the items
 unfoldable pub frontVerdict : List ℕ → Verdict
-frontVerdict xs = refuse (ltb (length xs) 4) 6 4 (length xs) ▷ uriVerdict xs ▷ placeVerdict xs ▷ countVerdict xs
+frontVerdict xs = refuse (ltb (length xs) 4) bodyTooShort 4 (length xs) ▷ uriVerdict xs ▷ placeVerdict xs ▷ countVerdict xs
 
 -- the items, and what the body ends with
 unfoldable pub restVerdict : List ℕ → Verdict
-restVerdict xs = itemsVerdict (itemCount xs) xs (countPlace xs + 1) ▷ lastVerdict 14 15 16 xs (length xs) (tailPlace xs)
+restVerdict xs = itemsVerdict (itemCount xs) xs (countPlace xs + 1) ▷ lastVerdict iconCut descriptorsTooLong linkSlack xs (length xs) (tailPlace xs)
 
 unfoldable pub bodyVerdict : List ℕ → Verdict
 bodyVerdict xs = frontVerdict xs ▷ restVerdict xs

@@ -10,6 +10,7 @@ use lib.ListN.{length, getD, take, replicate}
 use Rattle.wire.specs.Choice.{pick}
 use Rattle.wire.specs.Lists.{part}
 use Rattle.wire.specs.Lengths.{lengthAt}
+use Rattle.wire.specs.Refusals.{noSuchNumber}
 use Rattle.wire.specs.Verdict.{refuse, _▷_}
 use Rattle.field.specs.Fields.{linkTypeReserved, numberItems, numberItemsReserved, linkLengthReserved}
 use Rattle.wire.specs.declared.verdict.Verdict.{Verdict}
@@ -177,7 +178,7 @@ linkRead base r xs = linkAnswer (bodyVerdict xs) (infoAt base r xs)
 
 -- the body's refusals, then 21 with the number and the count, and else the item
 unfoldable pub itemRows : List ℕ → ℕ → Verdict
-itemRows xs i = bodyVerdict xs ▷ refuse (leb (itemCount xs) i) 21 i (itemCount xs)
+itemRows xs i = bodyVerdict xs ▷ refuse (leb (itemCount xs) i) noSuchNumber i (itemCount xs)
 
 unfoldable pub itemAnswer : Verdict → LinkItem → ItemRead
 itemAnswer Fine k = item.Got k

@@ -2,15 +2,15 @@
 ghost use mathlib.Core.Path.{_≡_};
 ghost use lib.ListN.{length, take};
 ghost use Rattle.field.specs.Fields.{checkField};
-ghost use Rattle.draft.specs.Checks.{firstIn, uriHere, locatorHere, checkPresence, checkHead, checkUri, checkPlace, checkText, checkItems, checkEnd, checkFields, checkRule, checkUriRange, checkTextRange, checkRanges, checkLink};
-use draft::check_range;
-use draft::held;
+ghost use Rattle.link_draft.specs.Checks.{firstIn, uriHere, locatorHere, checkPresence, checkHead, checkUri, checkPlace, checkText, checkItems, checkEnd, checkFields, checkRule, checkUriRange, checkTextRange, checkRanges, checkLink};
 use field::Field;
 use link::LinkInfo;
 use link::LinkItem;
 use link::LinkLocator;
 use link::MediaUri;
 use link::Range;
+use link_draft::check_range;
+use link_draft::held;
 use wire::verdict::Refusal;
 use wire::verdict::Verdict;
 use wire::verdict::first_of;
@@ -53,7 +53,7 @@ fn check_presence(link: LinkInfo) -> Verdict
     let locator = link.dvb_binary_locator;
     let link_type = link.link_type;
     let against = Verdict::Refused(Refusal {
-        number: 23,
+        number: Refusal::AGAINST_TYPE,
         first: link_type as usize,
         second: 0,
     });

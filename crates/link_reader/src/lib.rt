@@ -76,7 +76,7 @@ fn past_uri(s: &[u8]) -> Step
     }
     if have < 5 {
         return Step::Stop(Refusal {
-            number: 7,
+            number: Refusal::URI_LENGTH_CUT,
             first: 5,
             second: have,
         });
@@ -84,7 +84,7 @@ fn past_uri(s: &[u8]) -> Step
     let end = 5 + wire::wide(s[4]);
     if have < end {
         return Step::Stop(Refusal {
-            number: 8,
+            number: Refusal::URI_CUT,
             first: end,
             second: have,
         });
@@ -106,7 +106,7 @@ fn past_locator(s: &[u8], uri_end: usize) -> Placed
     }
     if have < uri_end + 1 {
         return Placed::Stop(Refusal {
-            number: 9,
+            number: Refusal::NO_LOCATOR,
             first: uri_end + 1,
             second: have,
         });
@@ -132,7 +132,7 @@ fn front_behind_uri(s: &[u8], uri_end: usize) -> Front
             let next = at + 1;
             if have < next {
                 return Front::Stop(Refusal {
-                    number: 11,
+                    number: Refusal::ITEM_COUNT_CUT,
                     first: next,
                     second: have,
                 });
@@ -153,7 +153,7 @@ fn read_front(s: &[u8]) -> Front
     let have = s.len();
     if have < 4 {
         return Front::Stop(Refusal {
-            number: 6,
+            number: Refusal::BODY_TOO_SHORT,
             first: 4,
             second: have,
         });
@@ -176,7 +176,7 @@ fn past_items(s: &[u8], at: usize, n: usize) -> Step
     while 0 < left {
         if have < p + 4 {
             return Step::Stop(Refusal {
-                number: 12,
+                number: Refusal::ITEM_CUT,
                 first: p + 4,
                 second: have,
             });
@@ -184,7 +184,7 @@ fn past_items(s: &[u8], at: usize, n: usize) -> Step
         let end = p + 4 + wire::wide(s[p + 3]);
         if have < end {
             return Step::Stop(Refusal {
-                number: 13,
+                number: Refusal::TEXT_CUT,
                 first: end,
                 second: have,
             });
@@ -203,7 +203,7 @@ fn tail_verdict(s: &[u8], p: usize) -> Verdict
     let have = s.len();
     if have < p + LengthField::BYTES {
         return Verdict::Refused(Refusal {
-            number: 14,
+            number: Refusal::ICON_CUT,
             first: p + LengthField::BYTES,
             second: have,
         });
@@ -213,14 +213,14 @@ fn tail_verdict(s: &[u8], p: usize) -> Verdict
     let available = have - (p + LengthField::BYTES);
     if available < declared {
         return Verdict::Refused(Refusal {
-            number: 15,
+            number: Refusal::DESCRIPTORS_TOO_LONG,
             first: declared,
             second: available,
         });
     }
     if declared < available {
         return Verdict::Refused(Refusal {
-            number: 16,
+            number: Refusal::LINK_SLACK,
             first: available - declared,
             second: 0,
         });
@@ -332,7 +332,7 @@ fn read_items(s: &[u8], at: usize, n: usize, base: u16) -> ItemsRead
         if have < head {
             return ItemsRead {
                 verdict: Verdict::Refused(Refusal {
-                    number: 12,
+                    number: Refusal::ITEM_CUT,
                     first: head,
                     second: have,
                 }),
@@ -344,7 +344,7 @@ fn read_items(s: &[u8], at: usize, n: usize, base: u16) -> ItemsRead
         if have < end {
             return ItemsRead {
                 verdict: Verdict::Refused(Refusal {
-                    number: 13,
+                    number: Refusal::TEXT_CUT,
                     first: end,
                     second: have,
                 }),
@@ -512,7 +512,7 @@ fn item_numbered(s: &[u8], base: u16, count_at: usize, number: usize) -> ItemRea
     let n = count_of(s[count_at]);
     if n <= number {
         return ItemRead::Refused(Refusal {
-            number: 21,
+            number: Refusal::NO_SUCH_NUMBER,
             first: number,
             second: n,
         });

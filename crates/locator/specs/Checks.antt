@@ -3,6 +3,7 @@
 -- Assumes nothing.
 use mathlib.Core.Bool.{xor}
 use Rattle.field.specs.Fields.{startDate, locatorReserved, tripletId, inlineReserved, earlyStart, lateEnd, checkField}
+use Rattle.wire.specs.Refusals.{againstRule}
 use Rattle.wire.specs.Verdict.{refuse, _▷_}
 use Rattle.wire.specs.declared.verdict.Verdict.{Verdict}
 use Rattle.wire.specs.declared.verdict.Verdict.the-variants.{Fine}
@@ -27,7 +28,7 @@ checkFields l = checkField startDate (l .«start_date») ▷ checkField locatorR
 
 -- windows present against the rule, or missing
 unfoldable pub checkWindows : DvbBinaryLocator → Verdict
-checkWindows l = refuse (xor (areHere (l .windows)) (areDue (l .identifier) (l .«scheduled_time_reliability»))) 24 0 0
+checkWindows l = refuse (xor (areHere (l .windows)) (areDue (l .identifier) (l .«scheduled_time_reliability»))) againstRule 0 0
 
 unfoldable pub checkLocator : DvbBinaryLocator → Verdict
 checkLocator l = checkFields l ▷ checkWindows l

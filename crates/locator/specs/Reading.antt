@@ -9,6 +9,7 @@ use lib.Dec.{eqb, ltb}
 use Rattle.wire.specs.Choice.{pick}
 use Rattle.wire.specs.Numbers.{be16}
 use Rattle.field.specs.Fields.{startDate, locatorReserved, tripletId, inlineReserved, earlyStart, lateEnd, low}
+use Rattle.wire.specs.Refusals.{locatorCut}
 use Rattle.wire.specs.Verdict.{refuse, _▷_}
 use Rattle.wire.specs.declared.verdict.Verdict.{Verdict}
 use Rattle.wire.specs.declared.verdict.Verdict.the-variants.{Fine, Refused}
@@ -85,15 +86,15 @@ sizeAt xs = serviceEnd (be16 xs 0) + timesLength + tailLength (be16 xs 0)
 
 -- fine, or 10 with what is needed and what is there
 abbrev pub needs : List ℕ → ℕ → Verdict
-needs xs n = refuse (ltb (length xs) n) 10 n (length xs)
+needs xs n = refuse (ltb (length xs) n) locatorCut n (length xs)
 
 unfoldable pub locatorVerdict : List ℕ → Verdict
 locatorVerdict xs =
     needs xs headLength ▷ needs xs (serviceEnd (be16 xs 0)) ▷ needs xs (serviceEnd (be16 xs 0) + timesLength) ▷ needs xs (sizeAt xs)
 
--- refused by 10
+-- refused: cut off
 abbrev pub cut : ℕ → ℕ → LocatorRead
-cut need have = NotRead (record { number = 10; first = need; second = have })
+cut need have = NotRead (record { number = locatorCut; first = need; second = have })
 
 -- the answer that a verdict makes of what stands there
 abbrev pub answer : Verdict → DvbBinaryLocator → ℕ → LocatorRead

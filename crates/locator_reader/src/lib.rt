@@ -143,7 +143,7 @@ fn cut(need: usize, have: usize) -> LocatorRead
     ensures { λ r. ⌜ r ≡ cut need have ⌝ }
 {
     LocatorRead::Refused(Refusal {
-        number: 10,
+        number: Refusal::LOCATOR_CUT,
         first: need,
         second: have,
     })

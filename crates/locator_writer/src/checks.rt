@@ -36,7 +36,7 @@ pub fn check_windows(locator: DvbBinaryLocator) -> Verdict
     let windows = locator.windows;
     if here(windows) != due(identifier, locator.scheduled_time_reliability) {
         return Verdict::Refused(Refusal {
-            number: 24,
+            number: Refusal::AGAINST_RULE,
             first: 0,
             second: 0,
         });

@@ -21,8 +21,8 @@ use locator::DvbBinaryLocator;
 use locator::DvbLocatorIdentifier;
 use locator::DvbLocatorService;
 use locator::DvbLocatorWindows;
-use reader::RctSection;
-use section::RctHeader;
+use rct::RctHeader;
+use rct_walker::RctSection;
 use wire::verdict::Refusal;
 
 // The place of a section's first link entry.
@@ -234,7 +234,7 @@ fn put_links(out: &mut [u8], n: usize, s: &[u8], count: usize) -> usize {
     let mut at = FIRST_ENTRY;
     let mut number: usize = 0;
     while number < count {
-        let entry = reader::entry::read_entry(s, at);
+        let entry = rct_walker::entry::read_entry(s, at);
         let link = entry.link;
         n = put_link(out, n, s, link);
         at = entry.next;

@@ -16,9 +16,9 @@ use crate::record::read_range;
 use crate::scan::Scan;
 use crate::word;
 use crate::word::Word;
-use edit::Edited;
 use link::reading::ItemRead;
-use reader::RctSection;
+use rct_edit::Edited;
+use rct_walker::RctSection;
 use wire::verdict::Verdict;
 
 // The most bytes that a buffer or a text has.
@@ -121,9 +121,9 @@ fn put_read(out: &mut [u8], n: usize, b: &[u8], r: RctSection) -> usize {
 
 fn read(b: &[u8], is_checked: bool) -> RctSection {
     if is_checked {
-        section_reader::check_section(b)
+        rct_reader::check_section(b)
     } else {
-        section_reader::read_section(b)
+        rct_reader::read_section(b)
     }
 }
 
@@ -140,7 +140,7 @@ fn link(line: &[u8], s: Scan, b: &[u8], out: &mut [u8], n: usize) -> usize {
     if !number.is_fine() {
         return put_fault(out, n, number);
     }
-    let read = entries::read_link(b, number.value as usize);
+    let read = rct_links::read_link(b, number.value as usize);
     let verdict = read.verdict;
     let link = read.link;
     match verdict {
@@ -158,7 +158,7 @@ fn item(line: &[u8], s: Scan, b: &[u8], out: &mut [u8], n: usize) -> usize {
     if !item.is_fine() {
         return put_fault(out, n, item);
     }
-    match entries::read_item(b, number.value as usize, item.value as usize) {
+    match rct_links::read_item(b, number.value as usize, item.value as usize) {
         ItemRead::Refused(refusal) => put_refusal(out, n, refusal),
         ItemRead::Got(got) => {
             let n = put_word(out, n, word::OK);
@@ -195,7 +195,7 @@ fn make(line: &[u8], s: Scan, b: &mut [u8], text: &[u8], out: &mut [u8], n: usiz
     if !s.is_fine() {
         return put_fault(out, n, s);
     }
-    let edited = maker::make(b, header, reserved.value, text, descriptors);
+    let edited = rct_maker::make(b, header, reserved.value, text, descriptors);
     put_edited(out, n, &b[..], edited)
 }
 
@@ -206,7 +206,7 @@ fn append(line: &[u8], s: Scan, b: &mut [u8], text: &[u8], out: &mut [u8], n: us
     if !s.is_fine() {
         return put_fault(out, n, s);
     }
-    let edited = editor::editing::append(b, text, link);
+    let edited = rct_editor::editing::append(b, text, link);
     put_edited(out, n, &b[..], edited)
 }
 
@@ -218,7 +218,7 @@ fn replace(line: &[u8], s: Scan, b: &mut [u8], text: &[u8], out: &mut [u8], n: u
     if !s.is_fine() {
         return put_fault(out, n, s);
     }
-    let edited = editor::editing::replace(b, number.value as usize, text, link);
+    let edited = rct_editor::editing::replace(b, number.value as usize, text, link);
     put_edited(out, n, &b[..], edited)
 }
 

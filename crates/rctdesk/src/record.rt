@@ -11,7 +11,7 @@ use locator::DvbBinaryLocator;
 use locator::DvbLocatorIdentifier;
 use locator::DvbLocatorService;
 use locator::DvbLocatorWindows;
-use section::RctHeader;
+use rct::RctHeader;
 
 // The items that a link's record has room for.
 pub const ITEMS: usize = 63;

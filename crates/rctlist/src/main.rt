@@ -2,7 +2,7 @@
 use libc::STDIN_FILENO;
 use libc::STDOUT_FILENO;
 use link::LinkInfo;
-use reader::RctSection;
+use rct_walker::RctSection;
 use wire::verdict::Refusal;
 use wire::verdict::Verdict;
 
@@ -70,7 +70,7 @@ fn show_links(s: &[u8], count: usize) {
     let mut at = FIRST_ENTRY;
     let mut number: usize = 0;
     while number < count {
-        let entry = reader::entry::read_entry(s, at);
+        let entry = rct_walker::entry::read_entry(s, at);
         let link = entry.link;
         show_link(number, link);
         at = entry.next;
@@ -79,7 +79,7 @@ fn show_links(s: &[u8], count: usize) {
 }
 
 fn list(s: &[u8]) {
-    let r = section_reader::read_section(s);
+    let r = rct_reader::read_section(s);
     let verdict = r.verdict;
     match verdict {
         Verdict::Refused(refusal) => show_refusal(refusal),

@@ -1,5 +1,5 @@
 -- `check_end` meets its contract. Assumes nothing.
-use Rattle.draft.specs.Checks.{checkEnd}
+use Rattle.link_draft.specs.Checks.{checkEnd}
 use borrow.Author.Needs.{needs}
 use Rattle.link_checker.proofs.check_end.Statement.{statement}
 use Rattle.link_checker.proofs.check_end.Tie as tie

@@ -1,5 +1,5 @@
 -- `check_fields` meets its contract. Assumes nothing.
-use Rattle.draft.specs.Checks.{checkFields}
+use Rattle.link_draft.specs.Checks.{checkFields}
 use borrow.Author.Needs.{needs}
 use Rattle.link_checker.proofs.check_fields.Statement.{statement}
 use Rattle.link_checker.proofs.check_fields.Tie as tie

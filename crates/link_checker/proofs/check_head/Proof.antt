@@ -1,5 +1,5 @@
 -- `check_head` meets its contract. Assumes nothing.
-use Rattle.draft.specs.Checks.{checkHead}
+use Rattle.link_draft.specs.Checks.{checkHead}
 use borrow.Author.Needs.{needs}
 use Rattle.link_checker.proofs.check_head.Statement.{statement}
 use Rattle.link_checker.proofs.check_head.Tie as tie

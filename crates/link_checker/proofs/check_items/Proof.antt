@@ -1,5 +1,5 @@
 -- `check_items` meets its contract. Assumes nothing.
-use Rattle.draft.specs.Checks.{checkItems}
+use Rattle.link_draft.specs.Checks.{checkItems}
 use borrow.Author.Needs.{needs}
 use Rattle.link_checker.proofs.check_items.Statement.{statement}
 use Rattle.link_checker.proofs.check_items.Tie as tie

@@ -1,5 +1,5 @@
 -- `check_link` meets its contract. Assumes nothing.
-use Rattle.draft.specs.Checks.{checkLink}
+use Rattle.link_draft.specs.Checks.{checkLink}
 use borrow.Author.Needs.{needs}
 use Rattle.link_checker.proofs.check_link.Statement.{statement}
 use Rattle.link_checker.proofs.check_link.Tie as tie

@@ -1,5 +1,5 @@
 -- `check_place` meets its contract. Assumes nothing.
-use Rattle.draft.specs.Checks.{checkPlace}
+use Rattle.link_draft.specs.Checks.{checkPlace}
 use borrow.Author.Needs.{needs}
 use Rattle.link_checker.proofs.check_place.Statement.{statement}
 use Rattle.link_checker.proofs.check_place.Tie as tie

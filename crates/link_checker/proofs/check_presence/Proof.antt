@@ -1,7 +1,7 @@
 -- `check_presence` meets its contract. Assumes nothing.
 use mathlib.Core.Bool.{xor}
 use Rattle.wire.specs.Verdict.{refuse, _▷_}
-use Rattle.draft.specs.Checks.{checkPresence}
+use Rattle.link_draft.specs.Checks.{checkPresence}
 use borrow.Author.Needs.{needs}
 use Rattle.link_checker.proofs.check_presence.Statement.{statement}
 use Rattle.link_checker.proofs.check_presence.Tie as tie

@@ -1,5 +1,5 @@
 -- `check_ranges` meets its contract. Assumes nothing.
-use Rattle.draft.specs.Checks.{checkRanges}
+use Rattle.link_draft.specs.Checks.{checkRanges}
 use borrow.Author.Needs.{needs}
 use Rattle.link_checker.proofs.check_ranges.Statement.{statement}
 use Rattle.link_checker.proofs.check_ranges.Tie as tie

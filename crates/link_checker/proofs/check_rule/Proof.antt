@@ -1,5 +1,5 @@
 -- `check_rule` meets its contract. Assumes nothing.
-use Rattle.draft.specs.Checks.{checkRule}
+use Rattle.link_draft.specs.Checks.{checkRule}
 use borrow.Author.Needs.{needs}
 use Rattle.link_checker.proofs.check_rule.Statement.{statement}
 use Rattle.link_checker.proofs.check_rule.Tie as tie

@@ -4,8 +4,8 @@ use mathlib.Core.Path.{_≡_, sym, _∙_}
 use native.Mathlib.Omega.{arith}
 use lib.ListN.{length, take, drop}
 use Rattle.link.specs.Records.{noItem}
-use Rattle.draft.specs.Checks.{firstIn, checkTextRange}
-use Rattle.draft.proofs.Walks.{first-stop, first-on, first-done}
+use Rattle.link_draft.specs.Checks.{firstIn, checkTextRange}
+use Rattle.link_draft.proofs.Walks.{first-stop, first-on, first-done}
 use borrow.Author.Needs.{needs}
 use Rattle.link_checker.proofs.check_text_ranges.Statement.{statement}
 use Rattle.link_checker.proofs.check_text_ranges.Tie as tie

@@ -1,5 +1,5 @@
 -- `check_uri` meets its contract. Assumes nothing.
-use Rattle.draft.specs.Checks.{checkUri}
+use Rattle.link_draft.specs.Checks.{checkUri}
 use borrow.Author.Needs.{needs}
 use Rattle.link_checker.proofs.check_uri.Statement.{statement}
 use Rattle.link_checker.proofs.check_uri.Tie as tie

@@ -1,5 +1,5 @@
 -- `check_uri_range` meets its contract. Assumes nothing.
-use Rattle.draft.specs.Checks.{checkUriRange}
+use Rattle.link_draft.specs.Checks.{checkUriRange}
 use borrow.Author.Needs.{needs}
 use Rattle.link_checker.proofs.check_uri_range.Statement.{statement}
 use Rattle.link_checker.proofs.check_uri_range.Tie as tie

@@ -3,7 +3,7 @@ use native.Mathlib.Omega.{arith}
 use lib.ListN.{length-set}
 use Rattle.link.specs.Syntax.{fieldBytes}
 use Rattle.link.specs.Records.{linkOf}
-use Rattle.draft.proofs.Putting.{wrote4}
+use Rattle.link_draft.proofs.Putting.{wrote4}
 use borrow.Author.Needs.{needs}
 use Rattle.link_writer.proofs.put_head.Statement.{statement}
 use Rattle.link_writer.proofs.put_head.Tie as tie

@@ -4,8 +4,8 @@ use native.Mathlib.Omega.{arith}
 use lib.ListN.{length-set}
 use Rattle.field.specs.Fields.{textLength}
 use Rattle.wire.proofs.Writing.{wrote-length}
-use Rattle.draft.proofs.Rows.{field-passed}
-use Rattle.draft.proofs.Putting.{wrote4, item-wrote}
+use Rattle.link_draft.proofs.Rows.{field-passed}
+use Rattle.link_draft.proofs.Putting.{wrote4, item-wrote}
 use borrow.Author.Needs.{needs}
 use Rattle.link_writer.proofs.put_item.Statement.{statement}
 use Rattle.link_writer.proofs.put_item.Tie as tie

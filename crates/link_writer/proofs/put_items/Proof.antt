@@ -8,10 +8,10 @@ use Rattle.wire.specs.Stores.{Wrote}
 use Rattle.wire.proofs.Writing.{wrote0, wrote-length}
 use Rattle.link.specs.Syntax.{itemsBytes}
 use Rattle.link.specs.Records.{itemOf, noItem}
-use Rattle.draft.specs.Lengths.{itemsSize}
-use Rattle.draft.proofs.Sizes.{item-length}
-use Rattle.draft.proofs.Walks.{size-on}
-use Rattle.draft.proofs.Putting.{Left, left-first, left-on, items-more, items-done}
+use Rattle.link_draft.specs.Lengths.{itemsSize}
+use Rattle.link_draft.proofs.Sizes.{item-length}
+use Rattle.link_draft.proofs.Walks.{size-on}
+use Rattle.link_draft.proofs.Putting.{Left, left-first, left-on, items-more, items-done}
 use borrow.Author.Needs.{needs}
 use Rattle.link_writer.proofs.put_items.Statement.{statement}
 use Rattle.link_writer.proofs.put_items.Tie as tie

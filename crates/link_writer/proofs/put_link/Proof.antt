@@ -1,7 +1,7 @@
 -- `put_link` meets its contract: what was checked gives each part's writer what it asks, and the parts make the body. Assumes nothing.
-use Rattle.draft.proofs.Carriers.{carried}
-use Rattle.draft.proofs.Exact.{passed}
-use Rattle.draft.proofs.Bodies.{head-room, uri-room, place-room, count-room, items-room, tail-room, body-wrote}
+use Rattle.link_draft.proofs.Carriers.{carried}
+use Rattle.link_draft.proofs.Exact.{passed}
+use Rattle.link_draft.proofs.Bodies.{head-room, uri-room, place-room, count-room, items-room, tail-room, body-wrote}
 use borrow.Author.Needs.{needs}
 use Rattle.link_writer.proofs.put_link.Statement.{statement}
 use Rattle.link_writer.proofs.put_link.Tie as tie

@@ -4,7 +4,7 @@ use native.Mathlib.Omega.{arith}
 use lib.Seq.{length-take-le}
 use Rattle.wire.proofs.Writing.{wrote0}
 use Rattle.link.specs.Syntax.{placeBytes}
-use Rattle.draft.proofs.Putting.{place-ready, place-wrote}
+use Rattle.link_draft.proofs.Putting.{place-ready, place-wrote}
 use borrow.Author.Needs.{needs}
 use Rattle.link_writer.proofs.put_place.Statement.{statement}
 use Rattle.link_writer.proofs.put_place.Tie as tie

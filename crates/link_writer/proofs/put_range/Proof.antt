@@ -1,5 +1,5 @@
 -- `put_range` meets its contract. Assumes nothing.
-use Rattle.draft.proofs.Putting.{range-copied}
+use Rattle.link_draft.proofs.Putting.{range-copied}
 use borrow.Author.Needs.{needs}
 use Rattle.link_writer.proofs.put_range.Statement.{statement}
 use Rattle.link_writer.proofs.put_range.Tie as tie

@@ -3,7 +3,7 @@ use mathlib.Core.Path.{_∙_}
 use native.Mathlib.Omega.{arith}
 use lib.ListN.{length-set}
 use Rattle.wire.proofs.Writing.{wrote-length}
-use Rattle.draft.proofs.Putting.{tail-wrote}
+use Rattle.link_draft.proofs.Putting.{tail-wrote}
 use borrow.Author.Needs.{needs}
 use Rattle.link_writer.proofs.put_tail.Statement.{statement}
 use Rattle.link_writer.proofs.put_tail.Tie as tie

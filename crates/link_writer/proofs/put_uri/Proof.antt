@@ -5,10 +5,10 @@ use lib.ListN.{length-set}
 use Rattle.field.specs.Fields.{uriLength}
 use Rattle.wire.proofs.Writing.{wrote0, wrote1, wrote-length}
 use Rattle.link.specs.Syntax.{uriBytes}
-use Rattle.draft.specs.Checks.{checkUri}
-use Rattle.draft.specs.Lengths.{uriSize}
-use Rattle.draft.proofs.Rows.{field-passed}
-use Rattle.draft.proofs.Putting.{uri-wrote}
+use Rattle.link_draft.specs.Checks.{checkUri}
+use Rattle.link_draft.specs.Lengths.{uriSize}
+use Rattle.link_draft.proofs.Rows.{field-passed}
+use Rattle.link_draft.proofs.Putting.{uri-wrote}
 use borrow.Author.Needs.{needs}
 use Rattle.link_writer.proofs.put_uri.Statement.{statement}
 use Rattle.link_writer.proofs.put_uri.Tie as tie

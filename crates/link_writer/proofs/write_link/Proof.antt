@@ -1,7 +1,7 @@
 -- `write_link` meets its contract. Assumes nothing.
 use mathlib.Core.Path.{sym, _∙_}
 use native.Mathlib.Omega.{arith}
-use Rattle.draft.proofs.Bodies.{refused-written, full-written, done-written}
+use Rattle.link_draft.proofs.Bodies.{refused-written, full-written, done-written}
 use borrow.Author.Needs.{needs}
 use Rattle.link_writer.proofs.write_link.Statement.{statement}
 use Rattle.link_writer.proofs.write_link.Tie as tie

@@ -1,0 +1,78 @@
+// An item reader: it keeps the bytes of a link's body and its own place, the number of the next item. The body is what
+// stands behind the entry's two length bytes; the ranges of its items are counted from its first byte.
+ghost use mathlib.Core.Path.{_≡_};
+ghost use Rattle.link.specs.Records.{itemRead};
+ghost use Rattle.link_items.specs.Steps.{stepped, readerOf, movedOn, itemAfter};
+use link::reading::ItemRead;
+
+pub struct ItemReader<'a> {
+    pub body: &'a [u8],
+    pub next: usize,
+}
+
+// What a step answers, and the place that it leaves.
+pub struct Stepped {
+    pub item: ItemRead,
+    pub next: usize,
+}
+
+// The work of a step, on a plain slice and a place: only an item moves the place on.
+fn step_at(body: &[u8], place: usize) -> Stepped
+    ensures { λ r. ⌜ r ≡ stepped (now (body .entry)) place ⌝ }
+{
+    let item = link_reader::read_item(body, 0, place);
+    match item {
+        ItemRead::Got(_) => Stepped {
+            item,
+            next: place + 1,
+        },
+        ItemRead::Refused(_) => Stepped { item, next: place },
+    }
+}
+
+// A reader at the body's first item.
+pub fn items<'a>(body: &'a [u8]) -> ItemReader<'a>
+    ensures { λ r. ⌜ r ≡ readerOf (body .entry) ⌝ }
+{
+    ItemReader { body, next: 0 }
+}
+
+// A step: the item at the reader's place, or the body's refusals 6 to 16, or 21 past the last item. Only an item moves the
+// place on, and the bytes stay the same.
+pub fn next<'s, 'a>(r: &'s mut ItemReader<'a>) -> ItemRead
+    ensures { λ item. ⌜ (item ≡ itemRead 0 (now (now (r .entry) .body)) (now (r .entry) .next)) × (now (r .exit) ≡ movedOn (now (r .entry))) ⌝ }
+{
+    let step = step_at(r.body, r.next);
+    r.next = step.next;
+    step.item
+}
+
+// One step of a reader at `place`, with plain parameters: whoever calls it holds no reader. The answer, and the place that
+// the reader is left at.
+pub fn step_from(body: &[u8], place: usize) -> Stepped
+    ensures { λ step. ⌜ step ≡ stepped (now (body .entry)) place ⌝ }
+{
+    let mut reader = ItemReader { body, next: place };
+    let item = next(&mut reader);
+    Stepped {
+        item,
+        next: reader.next,
+    }
+}
+
+// The answer of the step behind `steps` steps from the start. A refused step leaves the reader where it is, so behind it all
+// steps answer the same, and none is taken.
+pub fn item_after(body: &[u8], steps: usize) -> ItemRead
+    ensures { λ r. ⌜ r ≡ itemAfter (now (body .entry)) steps ⌝ }
+{
+    for place in 0..steps {
+        let step = step_from(body, place);
+        let item = step.item;
+        match item {
+            ItemRead::Got(_) => {}
+            ItemRead::Refused(_) => return item,
+        }
+    }
+    let last = step_from(body, steps);
+    last.item
+}

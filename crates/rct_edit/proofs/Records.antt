@@ -1,0 +1,108 @@
+-- The records with a link put in or added: which links they have, and that they fit.
+-- Assumes nothing.
+use mathlib.Core.Path.{_≡_, refl, ap}
+use mathlib.Core.Logic.{_≢_}
+use Prim.Native.Nat.{ℕ, zero, suc, _+_, _≤_, _<_}
+use native.Mathlib.Nat.{not-suc-le-zero, le-of-suc-le-suc}
+use native.Mathlib.Omega.{arith}
+use mathlib.Core.List.{List, [], _∷_, _++_}
+use lib.ListN.{length, getD, set, length-append, length-set, List·getD-append}
+use lib.Seq.{set-comm, getD-set-same, getD-set-other}
+use Rattle.wire.specs.Lengths.{longest, blockBytes}
+use Rattle.link.specs.Syntax.{Link, LinkFits, linkBody, entryOf}
+use Rattle.rct.specs.Syntax.{limit, Section, linksBytes, sectionLength, EntryFits, LinksFit, Fits}
+use Rattle.rct.proofs.Links.{entry-length}
+use Rattle.rct.proofs.Accepted.{length-payload}
+use Rattle.rct_edit.specs.Edit.{mostLinks, withLinks, put, grown}
+
+-- ---- the links
+
+-- link k is the new one, and those that are not named stay
+pub put-named : (s : Section) (k : ℕ) (l d : Link) → k < length (s .links) → getD (put s k l .links) k d ≡ l
+unfolding put
+put-named s k l d h = getD-set-same (s .links) k l d h
+
+pub put-others : (s : Section) (k i : ℕ) (l d : Link) → i ≢ k → getD (put s k l .links) i d ≡ getD (s .links) i d
+unfolding put
+put-others s k i l d n = getD-set-other (s .links) k i l d n
+
+pub length-put : (s : Section) (k : ℕ) (l : Link) → length (put s k l .links) ≡ length (s .links)
+unfolding put
+length-put s k l = length-set (s .links) k l
+
+-- the new link is the last, and those before it stay
+pub grown-last : (s : Section) (l d : Link) → getD (grown s l .links) (length (s .links)) d ≡ l
+unfolding grown
+grown-last s l d = last (s .links)
+  where
+    last : (ls : List Link) → getD (ls ++ l ∷ []) (length ls) d ≡ l
+    last [] = refl
+    last (x ∷ ls) = last ls
+
+pub grown-others : (s : Section) (i : ℕ) (l d : Link) → i < length (s .links) → getD (grown s l .links) i d ≡ getD (s .links) i d
+unfolding grown
+grown-others s i l d h = List·getD-append (s .links) (l ∷ []) d i h
+
+pub length-grown : (s : Section) (l : Link) → length (grown s l .links) ≡ length (s .links) + 1
+unfolding grown
+length-grown s l = length-append (s .links) (l ∷ [])
+
+-- two links that are put in at different numbers, in either order
+pub put-put : (s : Section) (k j : ℕ) (l m : Link) → k ≢ j → put (put s k l) j m ≡ put (put s j m) k l
+unfolding put
+put-put s k j l m n = ap (withLinks s) (set-comm (s .links) k j l m n)
+
+-- ---- a link's bytes are among the links' bytes
+
+pub put-within : (ls : List Link) (k : ℕ) (l : Link) → k < length ls → 2 + length (linkBody l) ≤ length (linksBytes (set ls k l))
+put-within [] k l h = absurd (not-suc-le-zero h)
+put-within (x ∷ ls) zero l h = omega (arith, length-append (blockBytes (entryOf l)) (linksBytes ls), entry-length l)
+put-within (x ∷ ls) (suc k) l h = omega (arith, length-append (blockBytes (entryOf x)) (linksBytes (set ls k l)), put-within ls k l (le-of-suc-le-suc h))
+
+pub last-within : (ls : List Link) (l : Link) → 2 + length (linkBody l) ≤ length (linksBytes (ls ++ l ∷ []))
+last-within [] l = omega (arith, length-append (blockBytes (entryOf l)) [], entry-length l)
+last-within (x ∷ ls) l = omega (arith, length-append (blockBytes (entryOf x)) (linksBytes (ls ++ l ∷ [])), last-within ls l)
+
+-- so in a section within the limit its body's length is told by 12 bits
+body-short : (s : Section) (l : Link) → 2 + length (linkBody l) ≤ length (linksBytes (s .links)) → sectionLength s ≤ limit → length (linkBody l) ≤ longest
+unfolding sectionLength
+body-short s l h f = omega (arith, length-payload s)
+
+pub put-short : (s : Section) (k : ℕ) (l : Link) → k < length (s .links) → sectionLength (put s k l) ≤ limit → length (linkBody l) ≤ longest
+unfolding put
+put-short s k l h = body-short (put s k l) l (put-within (s .links) k l h)
+
+pub grown-short : (s : Section) (l : Link) → sectionLength (grown s l) ≤ limit → length (linkBody l) ≤ longest
+unfolding grown
+grown-short s l = body-short (grown s l) l (last-within (s .links) l)
+
+-- ---- what fits, still fits
+
+links-fit-set : (ls : List Link) (k : ℕ) (l : Link) → EntryFits l → LinksFit ls → LinksFit (set ls k l)
+links-fit-set [] k l e f = tt
+links-fit-set (x ∷ ls) zero l e f = (e, f .1)
+links-fit-set (x ∷ ls) (suc k) l e f = (f .0, links-fit-set ls k l e (f .1))
+
+links-fit-more : (ls : List Link) (l : Link) → EntryFits l → LinksFit ls → LinksFit (ls ++ l ∷ [])
+links-fit-more [] l e f = (e, tt)
+links-fit-more (x ∷ ls) l e f = (f .0, links-fit-more ls l e (f .1))
+
+pub put-fits : (s : Section) (k : ℕ) (l : Link) → Fits limit s → LinkFits l → k < length (s .links) → sectionLength (put s k l) ≤ limit → Fits limit (put s k l)
+put-fits s k l f e h n =
+    record {
+      header = unfold put in f .header;
+      count = rw (length-put s k l) (f .count);
+      links = unfold put in links-fit-set (s .links) k l (record { link = e; short = put-short s k l h n }) (f .links);
+      loop = unfold put in f .loop;
+      fits = n;
+    }
+
+pub grown-fits : (s : Section) (l : Link) → Fits limit s → LinkFits l → length (s .links) < mostLinks → sectionLength (grown s l) ≤ limit → Fits limit (grown s l)
+grown-fits s l f e h n =
+    record {
+      header = unfold grown in f .header;
+      count = omega (arith, length-grown s l);
+      links = unfold grown in links-fit-more (s .links) l (record { link = e; short = grown-short s l n }) (f .links);
+      loop = unfold grown in f .loop;
+      fits = n;
+    }

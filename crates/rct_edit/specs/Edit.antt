@@ -1,0 +1,105 @@
+-- Making a section, appending a link and replacing a link in a lent buffer (document 01, 'Calls'): the answer, and the buffer afterwards. All of it is said by the records; v is the verdict on what is handed in, which comes before the verdict on the result.
+-- Assumes nothing.
+use Prim.Native.Nat.{ℕ, _+_, _-_, max}
+use mathlib.Core.List.{List, [], _∷_, _++_}
+use lib.Dec.{ltb, leb}
+use lib.ListN.{length, set, drop, replicate}
+use Rattle.wire.specs.Lengths.{longest, Block}
+use Rattle.wire.specs.Refusals.{noSuchNumber, bodyTooLong, sectionTooLong, noRoom, noMoreLinks}
+use Rattle.wire.specs.Verdict.{refuse, _▷_}
+use Rattle.wire.specs.declared.verdict.Verdict.{Verdict}
+use Rattle.wire.specs.declared.verdict.Verdict.the-variants.{Fine, Refused}
+use Rattle.link.specs.Syntax.{Link, linkBody}
+use Rattle.frame.specs.Frame.{totalOf}
+use Rattle.rct.specs.declared.RctHeader.{RctHeader}
+use Rattle.rct.specs.Syntax.{limit, Section, sectionLength, fullLength, sealed}
+use Rattle.rct.specs.Reading.{countAt, sectionAt, checked}
+
+-- the most links that the count's byte can tell, and what freed bytes become
+abbrev pub mostLinks : ℕ
+mostLinks = 255
+
+abbrev pub filler : ℕ
+filler = 0xFF
+
+-- ---- the records
+
+-- a section with other links
+abbrev pub withLinks : Section → List Link → Section
+withLinks s ls = record { header = s .header; links = ls; loop = s .loop }
+
+-- with no links; with link k put in; with a link more
+abbrev pub bare : RctHeader → Block → Section
+bare h b = record { header = h; links = []; loop = b }
+
+unfoldable pub put : Section → ℕ → Link → Section
+put s k l = withLinks s (set (s .links) k l)
+
+unfoldable pub grown : Section → Link → Section
+grown s l = withLinks s (s .links ++ l ∷ [])
+
+-- ---- the buffer
+
+-- s in place of the section that was there: what lies between a new end and the old one is filled, and what lies behind both stays
+unfoldable pub written : List ℕ → Section → List ℕ
+written xs s = sealed s ++ (replicate (totalOf xs - fullLength s) filler ++ drop (max (totalOf xs) (fullLength s)) xs)
+
+-- s from the first byte on; what lies behind it stays
+unfoldable pub fresh : List ℕ → Section → List ℕ
+fresh xs s = sealed s ++ drop (fullLength s) xs
+
+-- ---- the verdicts, in document 01's order
+
+abbrev pub lengthRow : Section → Verdict
+lengthRow s = refuse (ltb limit (sectionLength s)) sectionTooLong (sectionLength s) limit
+
+abbrev pub bodyRow : Link → Verdict
+bodyRow l = refuse (ltb longest (length (linkBody l))) bodyTooLong (length (linkBody l)) longest
+
+abbrev pub roomRow : ℕ → Section → Verdict
+roomRow room s = refuse (ltb room (fullLength s)) noRoom (fullLength s) room
+
+unfoldable pub roomVerdict : ℕ → Link → Section → Verdict
+roomVerdict room l s = lengthRow s ▷ bodyRow l ▷ roomRow room s
+
+-- there is no link k; there are as many links as can be
+abbrev pub numberRow : List ℕ → ℕ → Verdict
+numberRow xs k = refuse (leb (countAt xs) k) noSuchNumber k (countAt xs)
+
+abbrev pub countRow : List ℕ → Verdict
+countRow xs = refuse (leb mostLinks (countAt xs)) noMoreLinks mostLinks 0
+
+-- an edit of the section in xs, which would become s with the link l in it: the checked reading, the call's own row, the verdict v on the link, and the room
+unfoldable pub editVerdict : List ℕ → Verdict → Verdict → Link → Section → Verdict
+editVerdict xs row v l s = checked xs ▷ row ▷ v ▷ roomVerdict (length xs) l s
+
+unfoldable pub replaceVerdict : List ℕ → ℕ → Verdict → Link → Verdict
+replaceVerdict xs k v l = editVerdict xs (numberRow xs k) v l (put (sectionAt xs) k l)
+
+unfoldable pub appendVerdict : List ℕ → Verdict → Link → Verdict
+appendVerdict xs v l = editVerdict xs (countRow xs) v l (grown (sectionAt xs) l)
+
+-- of a section with no links
+unfoldable pub makeVerdict : ℕ → Verdict → Section → Verdict
+makeVerdict room v s = v ▷ lengthRow s ▷ roomRow room s
+
+-- ---- the outcomes
+
+pub record Outcome : Type 0 where
+  pub verdict : Verdict
+  pub total : ℕ
+  pub buffer : List ℕ
+
+-- fine: the total of s and the new buffer; refused: total 0 and the old one
+unfoldable pub done : Verdict → Section → List ℕ → List ℕ → Outcome
+done Fine s new old = record { verdict = Fine; total = fullLength s; buffer = new }
+done (Refused r) s new old = record { verdict = Refused r; total = 0; buffer = old }
+
+unfoldable pub replaced : List ℕ → ℕ → Verdict → Link → Outcome
+replaced xs k v l = done (replaceVerdict xs k v l) (put (sectionAt xs) k l) (written xs (put (sectionAt xs) k l)) xs
+
+unfoldable pub appended : List ℕ → Verdict → Link → Outcome
+appended xs v l = done (appendVerdict xs v l) (grown (sectionAt xs) l) (written xs (grown (sectionAt xs) l)) xs
+
+unfoldable pub made : List ℕ → Verdict → Section → Outcome
+made xs v s = done (makeVerdict (length xs) v s) s (fresh xs s) xs

@@ -1,0 +1,133 @@
+-- What the steps of the calls store: each is a run of the syntax's bytes.
+-- Assumes nothing.
+use Prim.Native.Nat.{ℕ, _+_, _-_, _%_, _≤_, _<_}
+use mathlib.Core.Path.{_≡_, refl, sym, ap, _∙_}
+use mathlib.Core.Bool.{Bool, true, false}
+use mathlib.Core.List.{List, [], _∷_, _++_}
+use native.Mathlib.Omega.{arith}
+use lib.ListN.{length, take, drop, getD, set, replicate, length-set, length-replicate, replicate-append-replicate}
+use lib.Seq.{sets, length-sets}
+use borrow.Author.Tests.{le-leb}
+use Rattle.wire.specs.Choice.{pick}
+use Rattle.wire.specs.Lists.{part}
+use Rattle.wire.specs.Lengths.{longest, widestBeside, lengthBytes, besideAt, blockBytes}
+use Rattle.wire.specs.Stores.{roomAt, putAt, Wrote}
+use Rattle.wire.specs.declared.verdict.Verdict.the-variants.{Fine}
+use Rattle.wire.proofs.Parts.{length-part}
+use Rattle.wire.proofs.Writing.{sets-append, sets-take, then, wrote-length}
+use Rattle.link.specs.Syntax.{linkBody}
+use Rattle.link.specs.Records.{linkOf}
+use Rattle.link.specs.declared.LinkInfo.{LinkInfo}
+use Rattle.link_draft.specs.Checks.{checkLink}
+use Rattle.link_draft.specs.Lengths.{linkLength}
+use Rattle.link_draft.specs.Writing.{putBy, linkPut}
+use Rattle.link_draft.proofs.Exact.{passed}
+use Rattle.link_draft.proofs.Putting.{copied}
+use Rattle.frame.specs.Frame.{uncounted, crcLength, totalOf, payloadEnd}
+use Rattle.rct_edit.specs.Edit.{filler}
+use Rattle.rct_edit.specs.Steps.{rehead, sealAt, sealEnd}
+use Rattle.rct_edit.proofs.Stores.{sealed-room, field-whole, field-put}
+use Rattle.rct_editor.specs.Editing.{filledUp, entryBytes, lengthBetween, spliced, finished, betweenBytes}
+use Rattle.rct_editor.proofs.Sizes.{body-size, entry-size}
+
+-- ---- filler
+
+pub fill-none : (xs : List ℕ) (p n : ℕ) → n ≡ 0 → xs ≡ sets xs p (replicate n filler)
+fill-none xs p n z = rw z
+
+pub fill-more : (xs ys : List ℕ) (p i : ℕ) → p ≤ i → ys ≡ sets xs p (replicate (i - p) filler) → set ys i filler ≡ sets xs p (replicate (i + 1 - p) filler)
+fill-more xs ys p i h e =
+    let at : i ≡ p + length (replicate (i - p) filler) = omega (arith, length-replicate (i - p) filler) in
+    let one : i + 1 - p ≡ (i - p) + 1 = omega arith in
+    ap (λ zs. set zs i filler) e
+    ∙ ap (λ j. set (sets xs p (replicate (i - p) filler)) j filler) at
+    ∙ sets-append xs (replicate (i - p) filler) (filler ∷ []) p
+    ∙ ap (sets xs p) (replicate-append-replicate (i - p) 1 filler)
+    ∙ ap (λ n. sets xs p (replicate n filler)) (sym one)
+
+pub fill-all : (xs ys : List ℕ) (p i e : ℕ) → e ≤ i → i - p ≤ e - p → ys ≡ sets xs p (replicate (i - p) filler) → ys ≡ filledUp xs p e
+unfolding filledUp
+fill-all xs ys p i e h l s = let n : i - p ≡ e - p = omega arith in s ∙ ap (λ m. sets xs p (replicate m filler)) n
+
+-- ---- a run that is put where there is room, or not at all
+
+pub length-putAt : (xs ys vs : List ℕ) (at : ℕ) → ys ≡ putAt xs at vs → length ys ≡ length xs
+length-putAt xs ys vs at e = ap length e ∙ by (roomAt xs at vs)
+  where
+    by : (b : Bool) → length (pick b (sets xs at vs) xs) ≡ length xs
+    by true = length-sets xs at vs
+    by false = refl
+
+-- ---- the tail, by way of a copy that starts as zs
+
+pub moved : (xs zs cs ys : List ℕ) (p q n : ℕ) → p + n ≤ length xs → q + n ≤ length xs
+    → cs ≡ putAt zs 0 (take (p + n - p) (drop p xs)) → ys ≡ putAt xs q (take n cs) → n ≤ length zs → ys ≡ sets xs q (part xs p n)
+moved xs zs cs ys p q n hp hq c y hz =
+    copied xs ys (part xs p n) q n (y ∙ ap (putAt xs q) copy) (length-part xs p n hp) hq .bytes
+  where
+    width : p + n - p ≡ n
+    width = omega arith
+
+    size : length (part xs p n) ≡ n
+    size = length-part xs p n hp
+
+    stored : cs ≡ sets zs 0 (part xs p n)
+    stored = copied zs cs (part xs p n) 0 n (c ∙ ap (λ m. putAt zs 0 (take m (drop p xs))) width) size (omega arith) .bytes
+
+    copy : take n cs ≡ part xs p n
+    copy =
+        let e : n ≡ 0 + length (part xs p n) = omega (arith, size) in
+        ap (λ r. take n r) stored ∙ ap (λ m. take m (sets zs 0 (part xs p n))) e ∙ sets-take zs 0 (part xs p n) (omega (arith, size))
+
+-- ---- a link's entry
+
+pub entry-put : (xs ys zs bs : List ℕ) (at n : ℕ) (t : List ℕ) (k : LinkInfo) → checkLink t k ≡ Fine → linkLength k ≤ longest → at + 2 + linkLength k ≤ length xs → n ≡ linkLength k
+    → bs ≡ lengthBytes (k .«reserved_link_info_length» % 16) (n % 4096) → ys ≡ putAt xs at bs → zs ≡ linkPut ys (at + 2) t k
+    → zs ≡ sets xs at (entryBytes t k)
+unfolding blockBytes linkOf linkPut putBy
+entry-put xs ys zs bs at n t k c l r is b p w =
+    then head body .bytes ∙ ap (λ n. sets xs at (lengthBytes (k .«reserved_link_info_length») n ++ linkBody (linkOf t k))) (sym (body-size t k c))
+  where
+    head : Wrote xs at (lengthBytes (k .«reserved_link_info_length») (linkLength k)) ys (at + 2)
+    head = field-put xs ys bs at (k .«reserved_link_info_length») (linkLength k) (passed t k c .end .beside) l (omega arith) (b ∙ ap (λ m. lengthBytes (k .«reserved_link_info_length» % 16) (m % 4096)) is) p
+
+    room : at + 2 + linkLength k ≤ length ys
+    room = omega (arith, wrote-length head)
+
+    body : Wrote ys (at + 2) (linkBody (linkOf t k)) zs (at + 2 + linkLength k)
+    body = record { bytes = w ∙ rw (c, le-leb _ _ room); place = omega (arith, body-size t k c) }
+
+-- ---- the head's numbers
+
+pub numbers-put : (xs bs : List ℕ) (len count : ℕ) → besideAt xs 1 ≤ widestBeside → len ≤ longest → bs ≡ lengthBytes (besideAt xs 1 % 16) (len % 4096)
+    → set (set (set xs 1 (getD bs 0 0)) 2 (getD bs 1 0)) 10 count ≡ rehead xs len count
+unfolding rehead lengthBytes
+numbers-put xs bs len count h l b = rw (b ∙ field-whole (besideAt xs 1) len h l)
+
+-- ---- the three of them: the tail, the entry, the numbers
+
+pub spliced-put : (xs y1 y2 y3 : List ℕ) (p q count : ℕ) (t : List ℕ) (k : LinkInfo) (to n len : ℕ) → checkLink t k ≡ Fine
+    → y1 ≡ sets xs to (part xs q n) → y2 ≡ sets y1 p (entryBytes t k) → y3 ≡ rehead y2 len count
+    → to ≡ p + 2 + linkLength k → n ≡ payloadEnd xs - q → y3 ≡ spliced xs p q (entryBytes t k) len count
+unfolding spliced
+spliced-put xs y1 y2 y3 p q count t k to n len c e1 e2 e3 et en =
+    let at : to ≡ p + length (entryBytes t k) = omega (arith, entry-size t k c) in
+    e3
+    ∙ ap (λ ys. rehead ys len count) (e2 ∙ ap (λ ys. sets ys p (entryBytes t k)) (e1 ∙ ap (λ m. sets xs m (part xs q n)) at ∙ ap (λ m. sets xs (p + length (entryBytes t k)) (part xs q m)) en))
+
+-- ---- and then the CRC, for which there is room, and the filler
+
+length-spliced : (xs : List ℕ) (p q : ℕ) (c : List ℕ) (len count : ℕ) → length (spliced xs p q c len count) ≡ length xs
+unfolding spliced rehead
+length-spliced xs p q c len count = simp (length-set, length-sets)
+
+pub finished-put : (xs y1 y2 y3 : List ℕ) (p q count : ℕ) (t : List ℕ) (k : LinkInfo) (len e new total : ℕ) → uncounted + len ≤ length xs
+    → y1 ≡ spliced xs p q (entryBytes t k) len count → y2 ≡ sealAt y1 e → y3 ≡ filledUp y2 new total
+    → len ≡ lengthBetween xs p q (linkLength k) → e ≡ uncounted + len - crcLength → new ≡ sealEnd y1 e → total ≡ totalOf xs
+    → (new ≡ uncounted + len) × (y3 ≡ betweenBytes xs p q count t k)
+unfolding betweenBytes finished
+finished-put xs y1 y2 y3 p q count t k len e new total room e1 e2 e3 el ee en et =
+    let size : length y1 ≡ length xs = ap length e1 ∙ length-spliced xs p q (entryBytes t k) len count in
+    let s = sealed-room y1 e (omega (arith, size)) in
+    let n : new ≡ uncounted + len = omega (arith, s .0) in
+    (n, e3 ∙ rw (n, et, e2 ∙ s .1, ee, e1, el))

@@ -1,0 +1,94 @@
+-- `replace` meets its contract. Assumes nothing.
+use Prim.Native.Nat.{_<_}
+use mathlib.Core.Path.{sym, _∙_}
+use native.Mathlib.Omega.{arith}
+use Rattle.wire.proofs.Parts.{bytes-known}
+use Rattle.rct.specs.Reading.{countAt, checked}
+use Rattle.rct_walker.proofs.Entries.{located-at, located-stop}
+use Rattle.rct_editor.proofs.Between.{frame-fine, replace-unread, replace-none, replace-spot, replace-is}
+use borrow.Author.Needs.{needs}
+use Rattle.rct_editor.proofs.editing.replace.Statement.{statement}
+use Rattle.rct_editor.proofs.editing.replace.Tie as tie
+
+locate-requires : tie.Need-locate-requires
+locate-requires c κs = search needs
+
+enum-known-located : tie.Need-enum-known-located
+enum-known-located c = search needs
+
+refused-requires : tie.Need-refused-requires
+refused-requires c κs = search needs
+
+enum-known-located-2 : tie.Need-enum-known-located-2
+enum-known-located-2 c = search needs
+
+slice-read-wide : tie.Need-slice-read-wide
+slice-read-wide c =
+    let args = c .before .before .before .before .before .before .before .before .args in
+    let f = located-at (checked (args .b .now)) _ _ _ _ _ _ (sym (c .before .before .before .before .locate .ensures) ∙ c .before .before .located2 .given .1) in omega (arith, frame-fine _ (f .fine) .large, frame-fine _ (f .fine) .within)
+
+wide-requires : tie.Need-wide-requires
+wide-requires c κs = search needs
+
+refused-requires-2 : tie.Need-refused-requires-2
+refused-requires-2 c κs = search needs
+
+same-length : tie.Need-same-length
+same-length c = search needs
+
+returns : tie.Need-returns
+returns c =
+    let args = c .before .before .before .before .before .before .before .before .before .before .before .args in
+    let wide = c .before .before .wide in
+    let f = located-at (checked (args .b .now)) _ _ _ _ _ _ (sym (c .before .before .before .before .before .before .before .locate .ensures) ∙ c .before .before .before .before .before .located2 .given .1) in
+    replace-none (args .b .now) (args .number) (args .text .now) (args .link) (f .fine) _ (omega (arith, wide .ensures .0)) (rw (wide .ensures .0) at (c .refused2 .ensures))
+
+put-between-requires : tie.Need-put-between-requires
+put-between-requires c κs =
+    let args = c .before .before .before .before .before .before .before .before .before .before .before .args in
+    let wide = c .before .before .wide in
+    let f = located-at (checked (args .b .now)) _ _ _ _ _ _ (sym (c .before .before .before .before .before .before .before .locate .ensures) ∙ c .before .before .before .before .before .located2 .given .1) in
+    let b = bytes-known (args .b .now) (c .before .before .before .before .before .before .before .before .before .before .slice-known .given) in
+    let h : args .number < countAt (args .b .now) = omega (arith, wide .ensures .0) in
+    let s = replace-spot (args .b .now) (args .number) (args .text .now) (args .link) _ _ _ f b h in
+    (s, omega (arith, wide .ensures .1))
+
+same-length-2 : tie.Need-same-length-2
+same-length-2 c = search needs
+
+returns-2 : tie.Need-returns-2
+returns-2 c =
+    let args = c .before .before .before .before .before .before .before .before .args in
+    replace-unread (args .b .now) (args .number) (args .text .now) (args .link) _ _ (located-stop (checked (args .b .now)) _ _ _ _ (sym (c .before .before .before .before .locate .ensures) ∙ c .before .before .located .given .1)) (c .refused .ensures)
+
+same-length-3 : tie.Need-same-length-3
+same-length-3 c = search needs
+
+returns-3 : tie.Need-returns-3
+returns-3 c =
+    let args = c .before .before .before .before .before .before .before .before .before .before .before .before .before .before .args in
+    let wide = c .before .before .before .before .before .wide in
+    let f = located-at (checked (args .b .now)) _ _ _ _ _ _ (sym (c .before .before .before .before .before .before .before .before .before .before .locate .ensures) ∙ c .before .before .before .before .before .before .before .before .located2 .given .1) in
+    let b = bytes-known (args .b .now) (c .before .before .before .before .before .before .before .before .before .before .before .before .before .slice-known .given) in
+    let h : args .number < countAt (args .b .now) = omega (arith, wide .ensures .0) in
+    let e = replace-is (args .b .now) (args .number) (args .text .now) (args .link) _ _ _ f b h in
+    rw (← e, ← wide .ensures .0) (c .before .before .put-between .ensures)
+
+pub replace-spec : {M : Type 1} → statement M
+replace-spec =
+    tie.close
+    (tie.spec
+    locate-requires
+    enum-known-located
+    refused-requires
+    enum-known-located-2
+    slice-read-wide
+    wide-requires
+    refused-requires-2
+    same-length
+    returns
+    put-between-requires
+    same-length-2
+    returns-2
+    same-length-3
+    returns-3)

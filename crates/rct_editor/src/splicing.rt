@@ -1,0 +1,130 @@
+// A link put into a section in a lent buffer, in place of what lies between two places.
+ghost use mathlib.Core.Path.{_≡_};
+ghost use Prim.Native.Nat.{_+_, _-_, _≤_, _<_};
+ghost use lib.ListN.{length};
+ghost use lib.Seq.{sets};
+ghost use Rattle.wire.specs.Lists.{part};
+ghost use Rattle.wire.specs.Lengths.{longest};
+ghost use Rattle.wire.specs.declared.verdict.Verdict.the-variants.{Fine};
+ghost use Rattle.link_draft.specs.Checks.{checkLink};
+ghost use Rattle.link_draft.specs.Lengths.{linkLength};
+ghost use Rattle.rct_edit.specs.Edit.{mostLinks};
+ghost use Rattle.rct_edit.specs.Steps.{rehead};
+ghost use Rattle.rct_edit.specs.Answers.{answer};
+ghost use Rattle.rct_editor.specs.Editing.{filledUp, entryBytes, Spot, Fitting, largest, spliced, between};
+use frame::Table;
+use link::LinkInfo;
+use link_draft::lengths;
+use rct::RctHeader;
+use rct_edit::Edited;
+use rct_edit::steps;
+use wire::lengths::LengthField;
+use wire::verdict::Verdict;
+
+// The most bytes of a section.
+const LARGEST: usize = Table::UNCOUNTED + RctHeader::LIMIT;
+
+// Puts the link in place of what lies between `from` and `to`, if its record passes its checks and the section has room.
+pub(crate) fn put_between(
+    b: &mut [u8],
+    from: usize,
+    to: usize,
+    count: usize,
+    text: &[u8],
+    link: LinkInfo,
+) -> Edited
+    requires { ⌜ Spot (now b) from to × (count ≤ mostLinks) ⌝ }
+    ensures { λ r. ⌜ r ≡ answer (between (now (b .entry)) from to count (now (text .entry)) link) ⌝ }
+    ensures { λ r. ⌜ now (b .exit) ≡ between (now (b .entry)) from to count (now (text .entry)) link .buffer ⌝ }
+{
+    let own = link_checker::check_link(text, link);
+    let Verdict::Fine = own else {
+        return steps::refused(own);
+    };
+    let total = frame::total(b[1], b[2]);
+    let body = lengths::link_length(link);
+    let section_length = total - Table::UNCOUNTED - (to - from) + LengthField::BYTES + body;
+    let room = steps::check_room(b.len(), body, section_length);
+    let Verdict::Fine = room else {
+        return steps::refused(room);
+    };
+    splice(b, from, to, section_length, count, text, link);
+    let new = steps::seal(b, frame::payload_end(Table::UNCOUNTED + section_length));
+    fill(b, new, total);
+    steps::accepted(new)
+}
+
+// The move, the entry and the head's numbers of an edit that is accepted.
+fn splice(
+    b: &mut [u8],
+    from: usize,
+    to: usize,
+    section_length: usize,
+    count: usize,
+    text: &[u8],
+    link: LinkInfo,
+)
+    requires { ⌜ Spot (now b) from to × ((count ≤ mostLinks) × Fitting (now b) from to (now text) link «section_length») ⌝ }
+    ensures { λ r. ⌜ now (b .exit) ≡ spliced (now (b .entry)) from to (entryBytes (now (text .entry)) link) «section_length» count ⌝ }
+{
+    let total = frame::total(b[1], b[2]);
+    let body = lengths::link_length(link);
+    let behind = from + LengthField::BYTES + body;
+    let end = frame::payload_end(total);
+    move_tail(b, to, behind, end - to);
+    put_entry(b, from, text, link);
+    put_numbers(b, section_length, count);
+}
+
+// The `n` bytes at `from` go to `to`, by way of a copy.
+fn move_tail(b: &mut [u8], from: usize, to: usize, n: usize)
+    requires { ⌜ (n ≤ largest) × ((from + n ≤ length (now b)) × (to + n ≤ length (now b))) ⌝ }
+    ensures { λ r. ⌜ now (b .exit) ≡ sets (now (b .entry)) to (part (now (b .entry)) from n) ⌝ }
+{
+    let end = from + n;
+    let mut copy = [0u8; LARGEST];
+    wire::put_at(&mut copy, 0, &b[from..end]);
+    wire::put_at(b, to, &copy[..n]);
+}
+
+// The entry of a record that passed its checks: its length with the four bits, then the body.
+fn put_entry(b: &mut [u8], at: usize, text: &[u8], link: LinkInfo)
+    requires { ⌜ (checkLink (now text) link ≡ Fine) × ((linkLength link ≤ longest) × (at + 2 + linkLength link ≤ length (now b))) ⌝ }
+    ensures { λ r. ⌜ now (b .exit) ≡ sets (now (b .entry)) at (entryBytes (now (text .entry)) link) ⌝ }
+{
+    let field = LengthField {
+        beside: link.reserved_link_info_length as u8,
+        length: lengths::link_length(link),
+    };
+    let bytes = field.to_bytes();
+    wire::put_at(b, at, &bytes);
+    link_writer::write_link(b, at + LengthField::BYTES, text, link);
+}
+
+// section_length anew, the four bits beside it kept, and the number of links.
+fn put_numbers(b: &mut [u8], section_length: usize, count: usize)
+    requires { ⌜ (10 < length (now b)) × ((«section_length» ≤ longest) × (count ≤ mostLinks)) ⌝ }
+    ensures { λ r. ⌜ now (b .exit) ≡ rehead (now (b .entry)) «section_length» count ⌝ }
+{
+    let old = LengthField::of_bytes(b[1], b[2]);
+    let field = LengthField {
+        beside: old.beside,
+        length: section_length,
+    };
+    let bytes = field.to_bytes();
+    b[1] = bytes[0];
+    b[2] = bytes[1];
+    b[RctHeader::COUNT_AT] = count as u8;
+}
+
+// The bytes from a new end up to the old one become filler.
+fn fill(b: &mut [u8], from: usize, to: usize)
+    requires { ⌜ to ≤ length (now b) ⌝ }
+    ensures { λ r. ⌜ now (b .exit) ≡ filledUp (now (b .entry)) from to ⌝ }
+{
+    let mut i = from;
+    while i < to {
+        b[i] = rct_edit::filler();
+        i += 1;
+    }
+}

@@ -1,0 +1,13 @@
+-- `keep` meets its contract. Assumes nothing.
+use borrow.Author.Tests.{eq-eqb, ne-eqb}
+use Rattle.rct_walker.proofs.places.keep.Statement.{statement}
+use Rattle.rct_walker.proofs.places.keep.Tie as tie
+
+returns : tie.Need-returns
+returns c = rw (eq-eqb _ _ (c .if1 .taken))
+
+returns-2 : tie.Need-returns-2
+returns-2 c = rw (ne-eqb _ _ (c .if1 .left))
+
+pub keep-spec : {M : Type 1} → statement M
+keep-spec = tie.close (tie.spec returns returns-2)

@@ -10,22 +10,23 @@ use lib.Seq.{take-all}
 use lib.Bits.{bitXor, xor-lt, xor-self}
 use Rattle.wire.specs.Lists.{Bytes}
 use Rattle.wire.specs.Numbers.{word32, bytes32, be32}
-use Rattle.wire.proofs.Parts.{bytes-at}
+use Rattle.wire.proofs.Lists.{bytes-at}
 use Rattle.wire.proofs.Words.{word32-bytes, be32-rebuild}
 use Rattle.crc.specs.Crc.{start, clocked, bits8, bitsOf, crcOf}
+use Rattle.crc.specs.Shifts.{shifts}
 use Rattle.crc.proofs.Xor.{xor-zero-eq}
-use Rattle.crc.proofs.Shift.{shifts, shifts-zero, shifts-of-zero}
+use Rattle.crc.proofs.Shift.{shifts-zero, shifts-of-zero}
 use Rattle.crc.proofs.Input.{clocked-lt, bits-bytes, word-input}
 
 pub crc-lt : (s : List ℕ) → crcOf s < 2 ^ 32
 unfolding crcOf
 crc-lt s = clocked-lt (bitsOf s) start (bits-bytes s) (lit< tt)
 
-clocked-append : (s t : List ℕ) (r : ℕ) → clocked r (s ++ t) ≡ clocked (clocked r s) t
+pub clocked-append : (s t : List ℕ) (r : ℕ) → clocked r (s ++ t) ≡ clocked (clocked r s) t
 clocked-append [] t r = refl
 clocked-append (b ∷ s) t r = clocked-append s t _
 
-bits-append : (s t : List ℕ) → bitsOf (s ++ t) ≡ bitsOf s ++ bitsOf t
+pub bits-append : (s t : List ℕ) → bitsOf (s ++ t) ≡ bitsOf s ++ bitsOf t
 bits-append [] t = refl
 bits-append (x ∷ s) t = ap (λ (l : List ℕ). bits8 x ++ l) (bits-append s t)
 

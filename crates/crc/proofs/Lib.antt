@@ -1,9 +1,8 @@
--- The laws of the CRC, and that its contract leaves one outcome.
+-- The laws of the CRC.
 pub mod Decoder
 pub mod Ending
-pub mod Unique
+pub mod Published
 -- what these and the code's proofs cite
 pub mod Xor
 pub mod Shift
 pub mod Input
-pub mod Loops

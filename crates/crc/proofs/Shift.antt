@@ -1,11 +1,13 @@
 -- The register is linear over exclusive or. So a bit at the input is the same as that bit in the highest place of the register
--- and 0 at the input: `shift` is a clock with 0 there.
+-- and 0 at the input.
 -- Assumes nothing.
 use mathlib.Core.Path.{_≡_, refl, sym, ap, ap₂, _∙_}
 use Prim.Native.Nat.{ℕ, zero, suc, _+_, _*_, _/_, _%_, _^_, _≤_, _<_}
+use native.Mathlib.Nat.{zero-add, suc-add}
 use native.Mathlib.Omega.{arith}
 use lib.Bits.{bitXor, xor-lt, xor-shr, xor-mod, xor-zero-r}
 use Rattle.crc.specs.Crc.{poly, clock}
+use Rattle.crc.specs.Shifts.{shift, shifts}
 use Rattle.crc.proofs.Xor.{digit, xor-4, xor-shl, xor-pick, xor-zero-eq}
 
 pub clock-lt : (r b : ℕ) → r < 2 ^ 32 → b < 2 → clock r b < 2 ^ 32
@@ -14,7 +16,7 @@ clock-lt r b hr hb =
     let t : bitXor (r / 2 ^ 31) b < 2 = xor-lt 1 (r / 2 ^ 31) b (omega arith) hb in
     xor-lt 32 (r * 2 % 2 ^ 32) (bitXor (r / 2 ^ 31) b * poly) (omega arith) (omega arith)
 
-clock-xor : (q r b c : ℕ) → q < 2 ^ 32 → r < 2 ^ 32 → b < 2 → c < 2
+pub clock-xor : (q r b c : ℕ) → q < 2 ^ 32 → r < 2 ^ 32 → b < 2 → c < 2
     → clock (bitXor q r) (bitXor b c) ≡ bitXor (clock q b) (clock r c)
 unfolding clock
 clock-xor q r b c hq hr hb hc =
@@ -29,10 +31,7 @@ clock-xor q r b c hq hr hb hc =
 
 -- ---- with 0 at the input
 
-unfoldable pub shift : ℕ → ℕ
-shift r = clock r 0
-
-shift-lt : (r : ℕ) → r < 2 ^ 32 → shift r < 2 ^ 32
+pub shift-lt : (r : ℕ) → r < 2 ^ 32 → shift r < 2 ^ 32
 unfolding shift
 shift-lt r h = clock-lt r 0 h (omega arith)
 
@@ -70,23 +69,40 @@ shift-zero r h e =
 
 -- ---- n times
 
-abbrev pub shifts : ℕ → ℕ → ℕ
-shifts zero r = r
-shifts (suc n) r = shift (shifts n r)
+pub shifts-none : (r : ℕ) → shifts 0 r ≡ r
+unfolding shifts
+shifts-none r = refl
 
-pub shifts-lt : (n r : ℕ) → r < 2 ^ 32 → shifts n r < 2 ^ 32
-shifts-lt zero r h = h
-shifts-lt (suc n) r h = shift-lt (shifts n r) (shifts-lt n r h)
+pub shifts-next : (n r : ℕ) → shifts (suc n) r ≡ shift (shifts n r)
+unfolding shifts
+shifts-next n r = refl
 
 pub shifts-first : (n r : ℕ) → shifts n (shift r) ≡ shifts (suc n) r
+unfolding shifts
 shifts-first zero r = refl
 shifts-first (suc n) r = ap shift (shifts-first n r)
 
+pub shifts-shifts : (m n r : ℕ) → shifts m (shifts n r) ≡ shifts (m + n) r
+unfolding shifts
+shifts-shifts zero n r = ap (λ (k : ℕ). shifts k r) (sym (zero-add n))
+shifts-shifts (suc m) n r = ap shift (shifts-shifts m n r) ∙ ap (λ (k : ℕ). shifts k r) (sym (suc-add m n))
+
+pub shifts-lt : (n r : ℕ) → r < 2 ^ 32 → shifts n r < 2 ^ 32
+unfolding shifts
+shifts-lt zero r h = h
+shifts-lt (suc n) r h = shift-lt (shifts n r) (shifts-lt n r h)
+
+pub shifts-xor : (n q r : ℕ) → q < 2 ^ 32 → r < 2 ^ 32 → shifts n (bitXor q r) ≡ bitXor (shifts n q) (shifts n r)
+unfolding shifts
+shifts-xor zero q r hq hr = refl
+shifts-xor (suc n) q r hq hr = ap shift (shifts-xor n q r hq hr) ∙ shift-xor (shifts n q) (shifts n r) (shifts-lt n q hq) (shifts-lt n r hr)
+
 pub shifts-zero : (n r : ℕ) → r < 2 ^ 32 → shifts n r ≡ 0 → r ≡ 0
+unfolding shifts
 shifts-zero zero r h e = e
 shifts-zero (suc n) r h e = shifts-zero n r h (shift-zero (shifts n r) (shifts-lt n r h) e)
 
 pub shifts-of-zero : (n : ℕ) → shifts n 0 ≡ 0
-unfolding clock shift
+unfolding clock shift shifts
 shifts-of-zero zero = refl
 shifts-of-zero (suc n) = ap shift (shifts-of-zero n)

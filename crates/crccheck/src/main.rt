@@ -6,7 +6,7 @@ fn show(name: &[u8], s: &[u8]) {
     io::write_all(STDOUT_FILENO, b"crc of ");
     io::write_all(STDOUT_FILENO, name);
     io::write_all(STDOUT_FILENO, b": ");
-    io::print_hex(STDOUT_FILENO, crc::crc32(s) as u64, 8);
+    io::print_hex(STDOUT_FILENO, crc_words::crc32(s) as u64, 8);
     io::write_all(STDOUT_FILENO, b"\n");
 }
 

@@ -1,4 +1,4 @@
--- Document 01's list of fields: each with its place there and its widest number. The widths are those of ETSI TS 102 323,
+-- Document 01's list of fields: each with its rank there, which document 01 calls its place, and its widest number. The widths are those of ETSI TS 102 323,
 -- Tables 31, 109 and 110: a field of n bits holds at most 2^n - 1.
 -- Assumes nothing.
 use Prim.Native.Nat.{ℕ, _+_, _-_, _%_}
@@ -15,7 +15,7 @@ use Rattle.field.specs.declared.Listed.the-variants.{Known, Nothing}
 use Rattle.wire.specs.declared.verdict.Verdict.{Verdict}
 
 abbrev field : ℕ → ℕ → Field
-field p w = record { place = p; widest = w }
+field p w = record { rank = p; widest = w }
 
 -- how_related_classification_scheme_id, 6 bits
 abbrev pub howRelated : Field
@@ -113,7 +113,7 @@ loopLength = field 23 longest
 abbrev pub loopLengthReserved : Field
 loopLengthReserved = field 24 widestBeside
 
--- the list, from place 1 on
+-- the list, from rank 1 on
 abbrev pub fields : List Field
 fields =
     howRelated
@@ -142,13 +142,13 @@ fields =
     ∷ loopLengthReserved
     ∷ []
 
--- what stands at a place of it
-abbrev pub listedAt : ℕ → Listed
-listedAt p = pick (eqb p 0) Nothing (pick (leb (length fields) (p - 1)) Nothing (Known (getD fields (p - 1) (field 0 0))))
+-- the field of a rank
+abbrev pub ranked : ℕ → Listed
+ranked p = pick (eqb p 0) Nothing (pick (leb (length fields) (p - 1)) Nothing (Known (getD fields (p - 1) (field 0 0))))
 
--- fine, or 22 with the field's place and the number that is too wide for it
+-- fine, or 22 with the field's rank and the number that is too wide for it
 unfoldable pub checkField : Field → ℕ → Verdict
-checkField f n = refuse (ltb (f .widest) n) tooWide (f .place) n
+checkField f n = refuse (ltb (f .widest) n) tooWide (f .rank) n
 
 -- the lowest bits of a number, as many as the field has
 abbrev pub low : Field → ℕ → ℕ

@@ -1,25 +1,31 @@
-// The fields of document 01's list: what each is, its place there, and its widest number, stated once for readers and
-// writers of every layer.
+// The fields of document 01's list: what each is, its rank there, and its widest number, stated once for readers and
+// writers of every layer. Document 01 calls the rank the field's place; here a place is always one among bytes.
 ghost use mathlib.Core.Path.{_≡_};
-ghost use Rattle.field.specs.Fields.{listedAt, checkField, low};
+ghost use Rattle.field.specs.Fields.{ranked, checkField, low};
 use wire::lengths::LengthField;
 use wire::verdict::Refusal;
 use wire::verdict::Verdict;
 
-// A field's kind: its place in document 01's list, where its constant says what it is, and its widest number.
+// A field's kind: its rank in document 01's list, where its constant says what it is, and its widest number.
 pub struct Field {
-    pub place: usize,
+    pub rank: usize,
     pub widest: usize,
 }
 
-// What stands at a place of document 01's list, if anything.
+// The field of a rank in document 01's list, if there is one.
 pub enum Listed {
     Known(Field),
     Nothing,
 }
 
-// Document 01's list, places 1 to 24.
-const LIST: [Field; 24] = [
+// The widest number of the 16 bits that a reader takes a field from.
+const ALL_OF_16_BITS: usize = 0xFFFF;
+
+// How many fields the list has: its last rank.
+const LAST_RANK: usize = 24;
+
+// Document 01's list, ranks 1 to 24.
+const LIST: [Field; LAST_RANK] = [
     Field::HOW_RELATED,
     Field::TERM_ID,
     Field::LINK_TYPE,
@@ -48,134 +54,128 @@ const LIST: [Field; 24] = [
 
 impl Field {
     pub const HOW_RELATED: Field = Field {
-        place: 1,
+        rank: 1,
         widest: 63,
     };
 
     pub const TERM_ID: Field = Field {
-        place: 2,
+        rank: 2,
         widest: 4095,
     };
 
     pub const LINK_TYPE: Field = Field {
-        place: 3,
+        rank: 3,
         widest: 15,
     };
 
-    pub const LINK_TYPE_RESERVED: Field = Field {
-        place: 4,
-        widest: 3,
-    };
+    pub const LINK_TYPE_RESERVED: Field = Field { rank: 4, widest: 3 };
 
     pub const GROUP_ID: Field = Field {
-        place: 5,
+        rank: 5,
         widest: 15,
     };
 
     pub const PRECEDENCE: Field = Field {
-        place: 6,
+        rank: 6,
         widest: 15,
     };
 
     pub const URI_LENGTH: Field = Field {
-        place: 7,
+        rank: 7,
         widest: 255,
     };
 
     pub const START_DATE: Field = Field {
-        place: 8,
+        rank: 8,
         widest: 511,
     };
 
-    pub const LOCATOR_RESERVED: Field = Field {
-        place: 9,
-        widest: 1,
-    };
+    pub const LOCATOR_RESERVED: Field = Field { rank: 9, widest: 1 };
 
     pub const TRIPLET_ID: Field = Field {
-        place: 10,
+        rank: 10,
         widest: 1023,
     };
 
     pub const INLINE_RESERVED: Field = Field {
-        place: 11,
+        rank: 11,
         widest: 3,
     };
 
     pub const EARLY_START: Field = Field {
-        place: 12,
+        rank: 12,
         widest: 7,
     };
 
     pub const LATE_END: Field = Field {
-        place: 13,
+        rank: 13,
         widest: 31,
     };
 
     pub const NUMBER_ITEMS: Field = Field {
-        place: 14,
+        rank: 14,
         widest: 63,
     };
 
     pub const NUMBER_ITEMS_RESERVED: Field = Field {
-        place: 15,
+        rank: 15,
         widest: 3,
     };
 
     pub const TEXT_LENGTH: Field = Field {
-        place: 16,
+        rank: 16,
         widest: 255,
     };
 
     pub const DESCRIPTOR_LENGTH: Field = Field {
-        place: 17,
+        rank: 17,
         widest: LengthField::LONGEST,
     };
 
     pub const ICON_ID: Field = Field {
-        place: 18,
+        rank: 18,
         widest: 7,
     };
 
     pub const LINK_LENGTH_RESERVED: Field = Field {
-        place: 19,
+        rank: 19,
         widest: LengthField::WIDEST_BESIDE,
     };
 
     pub const SECTION_RESERVED: Field = Field {
-        place: 20,
+        rank: 20,
         widest: 3,
     };
 
     pub const VERSION_NUMBER: Field = Field {
-        place: 21,
+        rank: 21,
         widest: 31,
     };
 
     pub const VERSION_RESERVED: Field = Field {
-        place: 22,
+        rank: 22,
         widest: 3,
     };
 
     pub const LOOP_LENGTH: Field = Field {
-        place: 23,
+        rank: 23,
         widest: LengthField::LONGEST,
     };
 
     pub const LOOP_LENGTH_RESERVED: Field = Field {
-        place: 24,
+        rank: 24,
         widest: LengthField::WIDEST_BESIDE,
     };
 
-    // The field at a place of document 01's list.
-    pub fn at(place: usize) -> Listed
-        ensures { λ r. ⌜ r ≡ listedAt place ⌝ }
+    // The field of a rank in document 01's list.
+    pub fn of_rank(rank: usize) -> Listed
+        ensures { λ r. ⌜ r ≡ ranked rank ⌝ }
     {
-        if place == 0 {
+        if rank == 0 {
             return Listed::Nothing;
         }
-        let i = place - 1;
-        if 24 <= i {
+        let i = rank - 1;
+        if LAST_RANK <= i {
             return Listed::Nothing;
         }
         let all = LIST;
@@ -183,28 +183,28 @@ impl Field {
         Listed::Known(field)
     }
 
-    // Refusal 22, with the place and the number, if the number is too wide for the field.
+    // Refusal 22, with the rank and the number, if the number is too wide for the field.
     pub fn check(self, number: usize) -> Verdict
         ensures { λ r. ⌜ r ≡ checkField self number ⌝ }
     {
         if self.widest < number {
             return Verdict::Refused(Refusal {
                 number: Refusal::TOO_WIDE,
-                first: self.place,
+                first: self.rank,
                 second: number,
             });
         }
         Verdict::Fine
     }
 
-    // The lowest bits of a number, as many as the field has: what a reader takes of the bits that a field ends.
+    // The lowest bits of a number, as many as the field has: what a reader takes of the bits that a field ends. The test is
+    // of the field alone, so that of a constant field nothing of it is left in the compiled code.
     pub fn low(self, number: u16) -> u16
         ensures { λ r. ⌜ r ≡ low self number ⌝ }
     {
-        let n = number as usize;
-        if n <= self.widest {
+        if ALL_OF_16_BITS <= self.widest {
             return number;
         }
-        (n % (self.widest + 1)) as u16
+        ((number as usize) % (self.widest + 1)) as u16
     }
 }

@@ -1,4 +1,5 @@
 -- The laws of the frame, and that each public contract leaves one outcome.
-pub mod Never
 pub mod Opening
+pub mod Endings
+pub mod Listed
 pub mod Unique

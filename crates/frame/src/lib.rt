@@ -1,11 +1,14 @@
-// What the sections of every table begin with: the table id, the length, and what follows from it.
+// What the sections of every table share: how they begin, how long they are, and how they end.
 ghost use mathlib.Core.Path.{_≡_};
 ghost use Prim.Native.Nat.{_+_, _-_, _≤_};
-ghost use Rattle.frame.specs.Frame.{crcLength, least, totalIn, opened};
-ghost use Rattle.wire.specs.Verdict.{bad};
+ghost use Rattle.wire.specs.Verdict.{bad, reached};
+ghost use Rattle.frame.specs.Syntax.{crcLength, least, limit};
+ghost use Rattle.frame.specs.Reading.{totalIn, totalOf, plainDemands, checkedDemands, opened};
 use wire::lengths::LengthField;
+use wire::verdict::Reached;
 use wire::verdict::Refusal;
-use wire::verdict::Verdict;
+
+pub mod ending;
 
 // A table: its id, its smallest section_length, and the number of the refusal of another id.
 pub struct Table {
@@ -20,11 +23,42 @@ impl Table {
 
     pub const CRC_LENGTH: usize = 4;
 
+    // The most bytes that stand before a CRC.
+    pub const LONGEST_PAYLOAD: usize = Table::UNCOUNTED + LengthField::LONGEST - Table::CRC_LENGTH;
+
     // The bytes of the smallest section.
     pub fn least(self) -> usize
         ensures { λ r. ⌜ (r ≡ least self) × (r ≤ 258) ⌝ }
     {
         Table::UNCOUNTED + wire::wide(self.shortest)
+    }
+}
+
+// What a reading demands of a section besides its syntax: the greatest section_length that it takes.
+pub struct Demands {
+    pub most: usize,
+}
+
+impl Demands {
+    // The greatest section_length that is written, and that a checked reading takes.
+    pub const LIMIT: usize = LengthField::LONGEST;
+
+    // The plain reading takes every length that the field holds.
+    pub fn plain() -> Demands
+        ensures { λ r. ⌜ r ≡ plainDemands ⌝ }
+    {
+        Demands {
+            most: LengthField::LONGEST,
+        }
+    }
+
+    // The checked reading takes no more than is written.
+    pub fn checked() -> Demands
+        ensures { λ r. ⌜ r ≡ checkedDemands ⌝ }
+    {
+        Demands {
+            most: Demands::LIMIT,
+        }
     }
 }
 
@@ -46,19 +80,19 @@ pub fn payload_end(total: usize) -> usize
     total - Table::CRC_LENGTH
 }
 
-fn refused(number: u8, first: usize, second: usize) -> Verdict
-    ensures { λ r. ⌜ r ≡ bad number first second ⌝ }
+fn refused(number: u8, first: usize, second: usize) -> Reached
+    ensures { λ r. ⌜ r ≡ reached (bad number first second) 0 ⌝ }
 {
-    Verdict::Refused(Refusal {
+    Reached::Refused(Refusal {
         number,
         first,
         second,
     })
 }
 
-// Whether `s` begins with a whole section of the table, whose section_length is at most `most`.
-pub fn open(s: &[u8], t: Table, most: usize) -> Verdict
-    ensures { λ r. ⌜ r ≡ opened t most (now (s .entry)) ⌝ }
+// The place behind the section that `s` begins with, if it is a whole one of the table and as the reading demands.
+pub fn open(s: &[u8], t: Table, demands: Demands) -> Reached
+    ensures { λ r. ⌜ r ≡ reached (opened t demands (now (s .entry))) (totalOf (now (s .entry))) ⌝ }
 {
     let least = t.least();
     if s.len() < least {
@@ -76,8 +110,8 @@ pub fn open(s: &[u8], t: Table, most: usize) -> Verdict
     if s.len() < total {
         return refused(Refusal::WRONG_LENGTH, length, s.len());
     }
-    if most < length {
-        return refused(Refusal::SECTION_TOO_LONG, length, most);
+    if demands.most < length {
+        return refused(Refusal::SECTION_TOO_LONG, length, demands.most);
     }
-    Verdict::Fine
+    Reached::At(total)
 }

@@ -1,42 +1,43 @@
 // Steps through the items of the link body on standard input: a line for each item, and the refusal that ends them.
+use console::Short;
+use console::print::end_line;
+use console::print::put_number;
+use console::print::put_refusal;
+use console::print::say;
 use libc::STDIN_FILENO;
 use libc::STDOUT_FILENO;
 use link::LangCode;
 use link::LinkInfo;
 use link::LinkItem;
 use link::reading::ItemRead;
-use wire::verdict::Refusal;
+use wire::lengths::LengthField;
 
 // The most bytes that a link body has: the widest link_info_length.
-const MOST: usize = 4095;
+const MOST: usize = LengthField::LONGEST;
 
-fn show(words: &[u8], value: usize) {
-    io::write_all(STDOUT_FILENO, words);
-    io::print_decimal(STDOUT_FILENO, value as u64);
-}
+const ITEM: Short = *b"item ___________________";
 
-fn end_line() {
-    io::write_all(STDOUT_FILENO, b"\n");
-}
+const LANGUAGE: Short = *b" language ______________";
 
-fn show_language(code: LangCode) {
-    io::write_all(STDOUT_FILENO, b" language ");
+const START: Short = *b" start _________________";
+
+const LENGTH: Short = *b" length ________________";
+
+// A language code as it is, whatever its bytes are.
+fn put_language(code: LangCode) {
     io::write_all(STDOUT_FILENO, &[code.first, code.second, code.third]);
 }
 
-fn show_item(number: usize, item: LinkItem) {
+fn put_item(number: usize, item: LinkItem) {
     let text = item.promotional_text;
-    show(b"item ", number);
-    show_language(item.language_code);
-    show(b" start ", text.start as usize);
-    show(b" length ", text.length as usize);
-    end_line();
-}
-
-fn show_refusal(r: Refusal) {
-    show(b"refused ", wire::wide(r.number));
-    show(b" ", r.first);
-    show(b" ", r.second);
+    say(ITEM);
+    put_number(number);
+    say(LANGUAGE);
+    put_language(item.language_code);
+    say(START);
+    put_number(text.start as usize);
+    say(LENGTH);
+    put_number(text.length as usize);
     end_line();
 }
 
@@ -47,9 +48,10 @@ fn list(body: &[u8]) {
         let step = link_items::step_from(body, place);
         let item = step.item;
         match item {
-            ItemRead::Got(i) => show_item(place, i),
+            ItemRead::Got(i) => put_item(place, i),
             ItemRead::Refused(r) => {
-                show_refusal(r);
+                put_refusal(r);
+                end_line();
                 return;
             }
         }

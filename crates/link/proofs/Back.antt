@@ -15,7 +15,7 @@ use Rattle.field.specs.Fields.{low, iconId}
 use Rattle.wire.specs.Lengths.{Block, BlockFits, blockBytes, blockEnd, besideAt}
 use Rattle.wire.specs.Verdict.{refuse, _▷_}
 use Rattle.wire.specs.declared.verdict.Verdict.the-variants.{Fine}
-use Rattle.wire.proofs.Parts.{at-drop-first, drop-past}
+use Rattle.wire.proofs.Lists.{at-drop-first, drop-past}
 use Rattle.wire.proofs.Blocks.{BlockRead, block-back, block-length, last-pass}
 use Rattle.wire.proofs.Verdicts.{fine-then, pass-ltb}
 use Rattle.locator.specs.Syntax.{locatorBytes, locatorLength}
@@ -24,8 +24,8 @@ use Rattle.locator.proofs.Sizes.{bytes-length}
 use Rattle.locator.specs.Reading.{readLocator}
 use Rattle.locator.specs.declared.DvbBinaryLocator.{DvbBinaryLocator}
 use Rattle.locator.specs.declared.reading.LocatorRead.the-variants as read
-use Rattle.link.specs.Syntax.{Link, LinkFits, PlaceFits, here, uriDue, locatorDue, fieldBytes, uriBytes, placeBytes, itemsBytes, tailOf, linkBody}
-use Rattle.link.specs.Reading.{typeAt, typeReservedAt, howRelatedAt, termIdAt, groupIdAt, precedenceAt, uriEnd, locatorSaid, locatorGot, locatorUsed, countPlace, itemCount, itemsReservedAt, itemPlace, tailPlace, defaultIconAt, iconIdAt, uriVerdict, placeVerdict, countVerdict, itemsVerdict, frontVerdict, restVerdict, bodyVerdict, itemsAt, linkAt}
+use Rattle.link.specs.Syntax.{Link, LinkFits, LocatorFits, here, uriDue, locatorDue, fieldBytes, uriBytes, locatorPart, itemsBytes, tailOf, linkBody}
+use Rattle.link.specs.Reading.{typeAt, typeReservedAt, howRelatedAt, termIdAt, groupIdAt, precedenceAt, uriEnd, locatorSaid, locatorGot, locatorUsed, countPlace, itemCount, itemsReservedAt, itemPlace, tailPlace, defaultIconAt, iconIdAt, uriVerdict, locatorRows, countVerdict, itemsVerdict, frontVerdict, restVerdict, bodyVerdict, itemsAt, linkAt}
 use Rattle.link.proofs.Items.{ItemsRead, items-back}
 
 -- ---- the URI
@@ -58,14 +58,14 @@ unfolding locatorLength
 locator-some l = omega (arith, bytes-length l)
 
 record PlaceRead (t : Bool) (m : Option DvbBinaryLocator) (xs : List ℕ) (p : ℕ) (post : List ℕ) : Type 0 where
-  end : pick t (p + locatorUsed (readLocator (drop p xs))) p ≡ p + length (placeBytes m)
+  end : pick t (p + locatorUsed (readLocator (drop p xs))) p ≡ p + length (locatorPart m)
   same : pick t (locatorGot (readLocator (drop p xs))) none ≡ m
   past : drop (pick t (p + locatorUsed (readLocator (drop p xs))) p) xs ≡ post
   passed : pick t (refuse (ltb (length xs) (p + 1)) 9 (p + 1) (length xs) ▷ locatorSaid (readLocator (drop p xs))) Fine ≡ Fine
 
-place-back : (t : Bool) (m : Option DvbBinaryLocator) (xs : List ℕ) (p : ℕ) (post : List ℕ) → here m ≡ t → PlaceFits m
-    → drop p xs ≡ placeBytes m ++ post → p + length (placeBytes m) ≤ length xs → PlaceRead t m xs p post
-unfolding placeBytes
+place-back : (t : Bool) (m : Option DvbBinaryLocator) (xs : List ℕ) (p : ℕ) (post : List ℕ) → here m ≡ t → LocatorFits m
+    → drop p xs ≡ locatorPart m ++ post → p + length (locatorPart m) ≤ length xs → PlaceRead t m xs p post
+unfolding locatorPart
 place-back true none xs p post h f d l = absurd (true≢false (sym h))
 place-back false (some m) xs p post h f d l = absurd (true≢false h)
 place-back false none xs p post h f d l = record { end = omega arith; same = refl; past = d; passed = refl }
@@ -88,7 +88,7 @@ module _ (l : Link) (f : LinkFits l) where
   U = uriBytes (l .uri)
 
   abbrev P : List ℕ
-  P = placeBytes (l .locator)
+  P = locatorPart (l .locator)
 
   abbrev N : ℕ
   N = l .itemsReserved * 64 + length (l .items)
@@ -174,7 +174,7 @@ module _ (l : Link) (f : LinkFits l) where
   end = omega (arith, size, uri .end, place .end, tail-place, tail .len, block-length (tailOf l))
 
   pub body-passed : bodyVerdict (linkBody l) ≡ Fine
-  unfolding bodyVerdict frontVerdict restVerdict uriVerdict placeVerdict countVerdict
+  unfolding bodyVerdict frontVerdict restVerdict uriVerdict locatorRows countVerdict
   body-passed =
       fine-then _ _
       (fine-then _ _ (pass-ltb (length (linkBody l)) 4 _ _ _ (omega (arith, size)))

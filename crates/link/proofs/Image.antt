@@ -18,7 +18,7 @@ use Rattle.locator.specs.declared.reading.LocatorRead.{LocatorRead}
 use Rattle.locator.specs.declared.reading.LocatorRead.the-variants as read
 use Rattle.link.specs.Syntax.{Item, Link, uriDue, locatorDue}
 use Rattle.link.specs.Reading.{typeAt, uriEnd, locatorIn, locatorGot, countPlace, itemCount, itemAt, itemEnd, itemPlace, itemVerdict, itemsAt, itemsVerdict, tailPlace, bodyVerdict, linkAt}
-use Rattle.link.specs.Records.{noItem, filled, itemInfo, itemInfos, uriInfo, locatorHeld, locatorInfo, infoAt, rangeOf, itemOf, uriOf, locatorOf, itemsOf, linkOf}
+use Rattle.link.specs.Records.{noItem, filled, itemInfo, itemInfos, uriInfo, locatorHeld, locatorInfo, fieldsAt, infoAt, rangeOf, itemOf, uriOf, locatorOf, itemsOf, linkOf}
 use Rattle.link.specs.declared.LinkItem.{LinkItem}
 use Rattle.link.specs.declared.LinkLocator.{LinkLocator}
 use Rattle.link.specs.declared.LinkLocator.the-variants as place
@@ -27,7 +27,7 @@ use Rattle.link.proofs.Filling.{length-infos}
 use Rattle.link.proofs.Bounds.{body-known, front-known, rest-known}
 
 -- a part of a part
-part-part : (t : List ℕ) (base n p m : ℕ) → p + m ≤ n → part (part t base n) p m ≡ part t (base + p) m
+pub part-part : (t : List ℕ) (base n p m : ℕ) → p + m ≤ n → part (part t base n) p m ≡ part t (base + p) m
 part-part t base n p m h = go p n (drop base t) h ∙ ap (take m) (drop-drop p base t)
   where
     go : (p n : ℕ) (l : List ℕ) → p + m ≤ n → take m (drop p (take n l)) ≡ take m (drop p l)
@@ -69,7 +69,7 @@ module _ (t : List ℕ) (base : ℕ) (xs : List ℕ) (e : part t base (length xs
 
   -- the whole record
   pub info-image : (r : ℕ) → bodyVerdict xs ≡ Fine → linkOf t (infoAt base r xs) ≡ linkAt r xs
-  unfolding linkOf infoAt linkAt
+  unfolding linkOf infoAt fieldsAt linkAt
   info-image r v =
       let b = body-known xs v in
       let f = front-known xs (b .0) in

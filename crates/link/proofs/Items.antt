@@ -8,7 +8,7 @@ use lib.ListN.{length, take, drop, getD, length-append, length-drop}
 use lib.Seq.{take-add, take-at}
 use Rattle.wire.specs.Lists.{Bytes, part}
 use Rattle.wire.specs.declared.verdict.Verdict.the-variants.{Fine}
-use Rattle.wire.proofs.Parts.{bytes-at, bytes-part, bytes-append, length-part, four-part, at-drop, at-drop-first, drop-past}
+use Rattle.wire.proofs.Lists.{bytes-at, bytes-part, bytes-append, length-part, four-part, at-drop, at-drop-first, drop-past}
 use Rattle.wire.proofs.Verdicts.{then-fine, fine-then, passed-ltb, pass-ltb}
 use Rattle.link.specs.Syntax.{Item, ItemFits, ItemsFit, itemBytes, itemsBytes}
 use Rattle.link.specs.Reading.{itemAt, itemEnd, itemPlace, itemsAt, itemVerdict, itemsVerdict}

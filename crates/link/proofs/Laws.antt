@@ -12,11 +12,11 @@ use Rattle.wire.specs.Choice.{bit}
 use Rattle.wire.specs.Lists.{Bytes}
 use Rattle.wire.specs.Lengths.{blockBytes, lengthBytes}
 use Rattle.wire.specs.declared.verdict.Verdict.the-variants.{Fine}
-use Rattle.wire.proofs.Parts.{bytes-append}
+use Rattle.wire.proofs.Lists.{bytes-append}
 use Rattle.wire.proofs.Blocks.{lengthBytes-bytes}
 use Rattle.locator.specs.declared.DvbBinaryLocator.{DvbBinaryLocator}
 use Rattle.locator.proofs.Spelling.{spelt-bytes}
-use Rattle.link.specs.Syntax.{Link, LinkFits, UriFits, PlaceFits, fieldBytes, uriBytes, placeBytes, itemsBytes, tailOf, linkBody}
+use Rattle.link.specs.Syntax.{Link, LinkFits, UriFits, LocatorFits, fieldBytes, uriBytes, locatorPart, itemsBytes, tailOf, linkBody}
 use Rattle.link.specs.Reading.{bodyVerdict, linkAt}
 use Rattle.link.proofs.Items.{items-bytes}
 use Rattle.link.proofs.Back.{body-passed, body-read, tail-fits}
@@ -56,8 +56,8 @@ unfolding uriBytes
 uri-bytes none f = tt
 uri-bytes (some u) f = (omega (arith, f .0), f .1)
 
-place-bytes : (m : Option DvbBinaryLocator) → PlaceFits m → Bytes (placeBytes m)
-unfolding placeBytes
+place-bytes : (m : Option DvbBinaryLocator) → LocatorFits m → Bytes (locatorPart m)
+unfolding locatorPart
 place-bytes none f = tt
 place-bytes (some l) f = spelt-bytes l f
 
@@ -83,5 +83,5 @@ unfolding linkBody
 link-bytes l f =
     bytes-append (fieldBytes l) _ (fields-bytes l f)
     (bytes-append (uriBytes (l .uri)) _ (uri-bytes (l .uri) (f .uri))
-    (bytes-append (placeBytes (l .locator)) _ (place-bytes (l .locator) (f .locator))
+    (bytes-append (locatorPart (l .locator)) _ (place-bytes (l .locator) (f .locator))
     (bytes-append (_ ∷ itemsBytes (l .items)) _ (omega (arith, f .itemsReserved, f .count), items-bytes (l .items) (f .items)) (tail-bytes l f))))

@@ -18,15 +18,15 @@ use Rattle.wire.specs.Lengths.{blockBytes, blockEnd, besideAt}
 use Rattle.wire.specs.Verdict.{refuse, _▷_}
 use Rattle.wire.specs.declared.verdict.Verdict.{Verdict}
 use Rattle.wire.specs.declared.verdict.Verdict.the-variants.{Fine, Refused}
-use Rattle.wire.proofs.Parts.{bytes-at, bytes-part, bytes-drop, length-part, firsts-part}
+use Rattle.wire.proofs.Lists.{bytes-at, bytes-part, bytes-drop, length-part, firsts-part}
 use Rattle.wire.proofs.Blocks.{block-rebuild, block-fits, beside-narrow, last-passed}
 use Rattle.wire.proofs.Verdicts.{then-fine, passed-ltb}
 use Rattle.locator.specs.Reading.{readLocator}
 use Rattle.locator.proofs.Rebuild as locator
 use Rattle.locator.specs.declared.reading.LocatorRead.{LocatorRead}
 use Rattle.locator.specs.declared.reading.LocatorRead.the-variants as read
-use Rattle.link.specs.Syntax.{LinkFits, UriFits, PlaceFits, here, uriDue, locatorDue, fieldBytes, uriBytes, placeBytes, itemsBytes, tailOf, linkBody}
-use Rattle.link.specs.Reading.{typeAt, typeReservedAt, howRelatedAt, termIdAt, groupIdAt, precedenceAt, uriEnd, locatorSaid, locatorGot, locatorUsed, locatorIn, countPlace, itemCount, itemsReservedAt, tailPlace, uriVerdict, placeVerdict, countVerdict, itemsVerdict, frontVerdict, restVerdict, bodyVerdict, itemsAt, linkAt}
+use Rattle.link.specs.Syntax.{LinkFits, UriFits, LocatorFits, here, uriDue, locatorDue, fieldBytes, uriBytes, locatorPart, itemsBytes, tailOf, linkBody}
+use Rattle.link.specs.Reading.{typeAt, typeReservedAt, howRelatedAt, termIdAt, groupIdAt, precedenceAt, uriEnd, locatorSaid, locatorGot, locatorUsed, locatorIn, countPlace, itemCount, itemsReservedAt, tailPlace, uriVerdict, locatorRows, countVerdict, itemsVerdict, frontVerdict, restVerdict, bodyVerdict, itemsAt, linkAt}
 use Rattle.link.proofs.Items.{items-rebuild, ItemsRebuilt, length-itemsAt}
 
 -- ---- the rows that are passed
@@ -34,7 +34,7 @@ use Rattle.link.proofs.Items.{items-rebuild, ItemsRebuilt, length-items
 pub record Passed (xs : List ℕ) : Type 0 where
   pub four : 4 ≤ length xs
   pub uri : uriVerdict xs ≡ Fine
-  pub place : placeVerdict xs ≡ Fine
+  pub place : locatorRows xs ≡ Fine
   pub count : countPlace xs + 1 ≤ length xs
   pub items : itemsVerdict (itemCount xs) xs (countPlace xs + 1) ≡ Fine
   pub tail : blockEnd xs (tailPlace xs) ≡ length xs
@@ -45,7 +45,7 @@ passed xs v =
     let front = then-fine (frontVerdict xs) _ v in
     let a = then-fine (refuse _ 6 4 (length xs)) _ (front .0) in
     let b = then-fine (uriVerdict xs) _ (a .1) in
-    let c = then-fine (placeVerdict xs) _ (b .1) in
+    let c = then-fine (locatorRows xs) _ (b .1) in
     let d = then-fine (itemsVerdict (itemCount xs) xs (countPlace xs + 1)) _ (front .1) in
     record {
       four = passed-ltb _ _ _ _ _ (a .0);
@@ -91,13 +91,13 @@ uri-rebuild true xs b h v =
 record PlaceRebuilt (t : Bool) (a : LocatorRead) (xs : List ℕ) (p : ℕ) : Type 0 where
   up : p ≤ pick t (p + locatorUsed a) p
   within : pick t (p + locatorUsed a) p ≤ length xs
-  same : take p xs ++ placeBytes (pick t (locatorGot a) none) ≡ take (pick t (p + locatorUsed a) p) xs
-  fits : PlaceFits (pick t (locatorGot a) none)
+  same : take p xs ++ locatorPart (pick t (locatorGot a) none) ≡ take (pick t (p + locatorUsed a) p) xs
+  fits : LocatorFits (pick t (locatorGot a) none)
   there : here (pick t (locatorGot a) none) ≡ t
 
 place-rebuild : (t : Bool) (a : LocatorRead) (xs : List ℕ) (p : ℕ) (w : Verdict) → Bytes xs → p ≤ length xs → readLocator (drop p xs) ≡ a
     → pick t (w ▷ locatorSaid a) Fine ≡ Fine → PlaceRebuilt t a xs p
-unfolding placeBytes
+unfolding locatorPart
 place-rebuild false a xs p w b h e v = record { up = omega arith; within = h; same = append-nil (take p xs); fits = tt; there = refl }
 place-rebuild true (read.Refused r) xs p w b h e v = let z : _≡_ {A = ℕ} 0 1 = (let q = then-fine w _ v .1 in cc) in absurd (omega arith)
 place-rebuild true (read.Got l n) xs p w b h e v =
@@ -146,7 +146,7 @@ module _ (r : ℕ) (xs : List ℕ) (b : Bytes xs) (h : r ≤ 15) (v : bodyVerdic
   uri = uri-rebuild (uriDue (typeAt xs)) xs b (p .four) (p .uri)
 
   place : PlaceRebuilt (locatorDue (typeAt xs)) (locatorIn xs) xs (uriEnd xs)
-  unfolding placeVerdict
+  unfolding locatorRows
   place = place-rebuild (locatorDue (typeAt xs)) (locatorIn xs) xs (uriEnd xs) _ b (uri .within) refl (p .place)
 
   items : ItemsRebuilt (itemCount xs) xs (countPlace xs + 1)
@@ -169,7 +169,7 @@ module _ (r : ℕ) (xs : List ℕ) (b : Bytes xs) (h : r ≤ 15) (v : bodyVerdic
   body-rebuilt =
       rw (fields-rebuild r xs b (p .four)) (
       join (take 4 xs) (uriBytes (linkAt r xs .uri)) _ (uri .same)
-      ∙ join (take (uriEnd xs) xs) (placeBytes (linkAt r xs .locator)) _ (place .same)
+      ∙ join (take (uriEnd xs) xs) (locatorPart (linkAt r xs .locator)) _ (place .same)
       ∙ join (take (countPlace xs) xs) (_ ∷ []) _ counted
       ∙ join (take (countPlace xs + 1) xs) (itemsBytes (linkAt r xs .items)) _ (items .same)
       ∙ tail)

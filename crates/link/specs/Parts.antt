@@ -6,22 +6,20 @@ use lib.ListN.{getD}
 use Rattle.wire.specs.Choice.{pick}
 use Rattle.wire.specs.Lengths.{lengthAt}
 use Rattle.wire.specs.Verdict.{isFine}
-use Rattle.link.specs.Syntax.{uriDue}
-use Rattle.link.specs.Reading.{typeAt, countPlace, itemPlace, tailPlace, bodyVerdict}
-use Rattle.link.specs.Records.{itemRows}
-use Rattle.link.specs.declared.parts.Span.{Span}
-
-abbrev pub span : ℕ → ℕ → Span
-span p n = record { start = p; length = n }
+use Rattle.link.specs.Syntax.{headLength, itemHead, uriDue}
+use Rattle.link.specs.Reading.{typeAt, uriStart, itemsPlace, itemPlace, textSize, tailPlace, bodyVerdict}
+use Rattle.link.specs.Answers.{itemRows}
+use Rattle.wire.specs.Spans.{span}
+use Rattle.wire.specs.declared.spans.Span.{Span}
 
 unfoldable pub uriSpan : List ℕ → Span
-uriSpan xs = pick (isFine (bodyVerdict xs)) (pick (uriDue (typeAt xs)) (span 5 (getD xs 4 0)) (span 0 0)) (span 0 0)
+uriSpan xs = pick (isFine (bodyVerdict xs)) (pick (uriDue (typeAt xs)) (span uriStart (getD xs headLength 0)) (span 0 0)) (span 0 0)
 
 abbrev pub textAt : List ℕ → ℕ → Span
-textAt xs p = span (p + 4) (getD xs (p + 3) 0)
+textAt xs p = span (p + itemHead) (textSize xs p)
 
 unfoldable pub textSpan : List ℕ → ℕ → Span
-textSpan xs i = pick (isFine (itemRows xs i)) (textAt xs (itemPlace i xs (countPlace xs + 1))) (span 0 0)
+textSpan xs i = pick (isFine (itemRows xs i)) (textAt xs (itemPlace i xs (itemsPlace xs))) (span 0 0)
 
 unfoldable pub descriptorSpan : List ℕ → Span
 descriptorSpan xs = pick (isFine (bodyVerdict xs)) (span (tailPlace xs + 2) (lengthAt xs (tailPlace xs))) (span 0 0)

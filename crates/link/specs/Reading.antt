@@ -21,7 +21,7 @@ use Rattle.locator.specs.Reading.{readLocator}
 use Rattle.locator.specs.declared.DvbBinaryLocator.{DvbBinaryLocator}
 use Rattle.locator.specs.declared.reading.LocatorRead.{LocatorRead}
 use Rattle.locator.specs.declared.reading.LocatorRead.the-variants as read
-use Rattle.link.specs.Syntax.{Item, Link, uriDue, locatorDue}
+use Rattle.link.specs.Syntax.{headLength, uriHead, countLength, languageLength, itemHead, Item, Link, uriDue, locatorDue}
 
 -- ---- the fields of the first four bytes: a `/` says how many bits stand behind a field, `low` how many it has
 
@@ -45,9 +45,13 @@ precedenceAt xs = low precedence (getD xs 3 0)
 
 -- ---- the places, and the fields that stand there
 
+-- where a URI starts, behind the byte with its length
+abbrev pub uriStart : ℕ
+uriStart = headLength + uriHead
+
 -- behind the URI, if there is one: a length byte, and as many bytes
 abbrev pub uriEnd : List ℕ → ℕ
-uriEnd xs = pick (uriDue (typeAt xs)) (5 + getD xs 4 0) 4
+uriEnd xs = pick (uriDue (typeAt xs)) (uriStart + getD xs headLength 0) headLength
 
 -- what a reading of a locator says: its verdict, the locator, the bytes used
 abbrev pub locatorSaid : LocatorRead → Verdict
@@ -76,9 +80,16 @@ itemCount xs = low numberItems (getD xs (countPlace xs) 0)
 abbrev pub itemsReservedAt : List ℕ → ℕ
 itemsReservedAt xs = low numberItemsReserved (getD xs (countPlace xs) 0 / 64)
 
--- behind an item at p: three language bytes, a length byte, and as many bytes
+-- the place of the first item
+abbrev pub itemsPlace : List ℕ → ℕ
+itemsPlace xs = countPlace xs + countLength
+
+-- the bytes of the text of an item at p, and the place behind it: three language bytes, a length byte, and as many bytes
+abbrev pub textSize : List ℕ → ℕ → ℕ
+textSize xs p = getD xs (p + languageLength) 0
+
 abbrev pub itemEnd : List ℕ → ℕ → ℕ
-itemEnd xs p = p + 4 + getD xs (p + 3) 0
+itemEnd xs p = p + itemHead + textSize xs p
 
 -- the place of item n, or behind n items, the first of which is at p
 abbrev pub itemPlace : ℕ → List ℕ → ℕ → ℕ
@@ -87,7 +98,7 @@ itemPlace (suc n) xs p = itemPlace n xs (itemEnd xs p)
 
 -- behind the items: default icon flag, icon and the descriptors
 abbrev pub tailPlace : List ℕ → ℕ
-tailPlace xs = itemPlace (itemCount xs) xs (countPlace xs + 1)
+tailPlace xs = itemPlace (itemCount xs) xs (itemsPlace xs)
 
 abbrev pub defaultIconAt : List ℕ → Bool
 defaultIconAt xs = eqb (besideAt xs (tailPlace xs) / 8) 1
@@ -100,21 +111,22 @@ iconIdAt xs = low iconId (besideAt xs (tailPlace xs))
 unfoldable pub uriVerdict : List ℕ → Verdict
 uriVerdict xs =
     pick (uriDue (typeAt xs))
-    (refuse (ltb (length xs) 5) uriLengthCut 5 (length xs) ▷ refuse (ltb (length xs) (5 + getD xs 4 0)) uriCut (5 + getD xs 4 0) (length xs))
+    (refuse (ltb (length xs) uriStart) uriLengthCut uriStart (length xs)
+    ▷ refuse (ltb (length xs) (uriStart + getD xs headLength 0)) uriCut (uriStart + getD xs headLength 0) (length xs))
     Fine
 
-unfoldable pub placeVerdict : List ℕ → Verdict
-placeVerdict xs =
+unfoldable pub locatorRows : List ℕ → Verdict
+locatorRows xs =
     pick (locatorDue (typeAt xs))
     (refuse (ltb (length xs) (uriEnd xs + 1)) noLocator (uriEnd xs + 1) (length xs) ▷ locatorSaid (locatorIn xs))
     Fine
 
 unfoldable pub countVerdict : List ℕ → Verdict
-countVerdict xs = refuse (ltb (length xs) (countPlace xs + 1)) itemCountCut (countPlace xs + 1) (length xs)
+countVerdict xs = refuse (ltb (length xs) (itemsPlace xs)) itemCountCut (itemsPlace xs) (length xs)
 
 unfoldable pub itemVerdict : List ℕ → ℕ → Verdict
 itemVerdict xs p =
-    refuse (ltb (length xs) (p + 4)) itemCut (p + 4) (length xs) ▷ refuse (ltb (length xs) (itemEnd xs p)) textCut (itemEnd xs p) (length xs)
+    refuse (ltb (length xs) (p + itemHead)) itemCut (p + itemHead) (length xs) ▷ refuse (ltb (length xs) (itemEnd xs p)) textCut (itemEnd xs p) (length xs)
 
 unfoldable pub itemsVerdict : ℕ → List ℕ → ℕ → Verdict
 itemsVerdict zero xs p = Fine
@@ -122,11 +134,11 @@ itemsVerdict (suc n) xs p = itemVerdict xs p ▷ itemsVerdict n xs (itemEnd xs p
 
 -- what stands before the items
 unfoldable pub frontVerdict : List ℕ → Verdict
-frontVerdict xs = refuse (ltb (length xs) 4) bodyTooShort 4 (length xs) ▷ uriVerdict xs ▷ placeVerdict xs ▷ countVerdict xs
+frontVerdict xs = refuse (ltb (length xs) headLength) bodyTooShort headLength (length xs) ▷ uriVerdict xs ▷ locatorRows xs ▷ countVerdict xs
 
 -- the items, and what the body ends with
 unfoldable pub restVerdict : List ℕ → Verdict
-restVerdict xs = itemsVerdict (itemCount xs) xs (countPlace xs + 1) ▷ lastVerdict iconCut descriptorsTooLong linkSlack xs (length xs) (tailPlace xs)
+restVerdict xs = itemsVerdict (itemCount xs) xs (itemsPlace xs) ▷ lastVerdict iconCut descriptorsTooLong linkSlack xs (length xs) (tailPlace xs)
 
 unfoldable pub bodyVerdict : List ℕ → Verdict
 bodyVerdict xs = frontVerdict xs ▷ restVerdict xs
@@ -137,7 +149,7 @@ abbrev pub itemAt : List ℕ → ℕ → Item
 itemAt xs p =
     record {
       language = record { first = getD xs p 0; second = getD xs (p + 1) 0; third = getD xs (p + 2) 0 };
-      text = part xs (p + 4) (getD xs (p + 3) 0);
+      text = part xs (p + itemHead) (textSize xs p);
     }
 
 unfoldable pub itemsAt : ℕ → List ℕ → ℕ → List Item
@@ -155,10 +167,10 @@ linkAt r xs =
       termId = termIdAt xs;
       groupId = groupIdAt xs;
       precedence = precedenceAt xs;
-      uri = pick (uriDue (typeAt xs)) (some (part xs 5 (getD xs 4 0))) none;
+      uri = pick (uriDue (typeAt xs)) (some (part xs uriStart (getD xs headLength 0))) none;
       locator = pick (locatorDue (typeAt xs)) (locatorGot (locatorIn xs)) none;
       itemsReserved = itemsReservedAt xs;
-      items = itemsAt (itemCount xs) xs (countPlace xs + 1);
+      items = itemsAt (itemCount xs) xs (itemsPlace xs);
       defaultIcon = defaultIconAt xs;
       iconId = iconIdAt xs;
       descriptors = part xs (tailPlace xs + 2) (lengthAt xs (tailPlace xs));

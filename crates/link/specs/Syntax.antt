@@ -38,6 +38,24 @@ pub record Link : Type 0 where
   pub iconId : ℕ
   pub descriptors : List ℕ
 
+-- ---- how long its parts are, in bytes: link_type to precedence; media_uri_length; number_items with its reserved bits;
+-- ISO_639_language_code; an item's language and promotional_text_length
+
+abbrev pub headLength : ℕ
+headLength = 4
+
+abbrev pub uriHead : ℕ
+uriHead = 1
+
+abbrev pub countLength : ℕ
+countLength = 1
+
+abbrev pub languageLength : ℕ
+languageLength = 3
+
+abbrev pub itemHead : ℕ
+itemHead = languageLength + 1
+
 -- ---- which link types have what (Table 111): 0 a URI, 1 a locator, 2 both, 3 and the reserved ones neither
 
 abbrev pub uriDue : ℕ → Bool
@@ -66,9 +84,9 @@ unfoldable pub uriBytes : Option (List ℕ) → List ℕ
 uriBytes none = []
 uriBytes (some u) = length u ∷ u
 
-unfoldable pub placeBytes : Option DvbBinaryLocator → List ℕ
-placeBytes none = []
-placeBytes (some l) = locatorBytes l
+unfoldable pub locatorPart : Option DvbBinaryLocator → List ℕ
+locatorPart none = []
+locatorPart (some l) = locatorBytes l
 
 -- ISO_639_language_code 24, promotional_text_length 8, and as many bytes
 unfoldable pub itemBytes : Item → List ℕ
@@ -86,7 +104,7 @@ unfoldable pub linkBody : Link → List ℕ
 linkBody l =
     fieldBytes l
     ++ (uriBytes (l .uri)
-    ++ (placeBytes (l .locator) ++ (((l .itemsReserved * 64 + length (l .items)) ∷ itemsBytes (l .items)) ++ blockBytes (tailOf l))))
+    ++ (locatorPart (l .locator) ++ (((l .itemsReserved * 64 + length (l .items)) ∷ itemsBytes (l .items)) ++ blockBytes (tailOf l))))
 
 -- the entry of a link: the four bits, the body's length, the body
 abbrev pub entryOf : Link → Block
@@ -98,9 +116,9 @@ abbrev pub UriFits : Option (List ℕ) → Type 0
 UriFits none = Unit
 UriFits (some u) = (length u ≤ uriLength .widest) × Bytes u
 
-abbrev pub PlaceFits : Option DvbBinaryLocator → Type 0
-PlaceFits none = Unit
-PlaceFits (some l) = Fits l
+abbrev pub LocatorFits : Option DvbBinaryLocator → Type 0
+LocatorFits none = Unit
+LocatorFits (some l) = Fits l
 
 pub record ItemFits (i : Item) : Type 0 where
   pub first : i .language .first < 256
@@ -124,7 +142,7 @@ pub record LinkFits (l : Link) : Type 0 where
   pub uriHere : here (l .uri) ≡ uriDue (l .linkType)
   pub uri : UriFits (l .uri)
   pub locatorHere : here (l .locator) ≡ locatorDue (l .linkType)
-  pub locator : PlaceFits (l .locator)
+  pub locator : LocatorFits (l .locator)
   pub itemsReserved : l .itemsReserved ≤ numberItemsReserved .widest
   pub count : length (l .items) ≤ numberItems .widest
   pub items : ItemsFit (l .items)

@@ -1,12 +1,11 @@
-// A link of the related content section (ETSI TS 102 323, 10.4.3, Table 110): its record, which link types have what, and
-// what a reading of its body answers.
+// A link of the related content section (ETSI TS 102 323, 10.4.3, Table 110): its record, how long its parts are, which
+// link types have what, and what a reading of its body answers.
 ghost use mathlib.Core.Path.{_≡_};
 ghost use Rattle.link.specs.Syntax.{uriDue, locatorDue};
-ghost use Rattle.link.specs.Records.{noItem, noLink, newLink};
+ghost use Rattle.link.specs.Records.{noItem, noFields, noLink, onesFields};
 use field::Field;
 use locator::DvbBinaryLocator;
 
-pub mod parts;
 pub mod reading;
 
 // Bytes of one lent text: where they start, and how many there are.
@@ -37,8 +36,8 @@ pub enum LinkLocator {
     Present(DvbBinaryLocator),
 }
 
-// The record of a link: `number_items` of the items count, the others mean nothing.
-pub struct LinkInfo {
+// The fields of a link's record, all but the items themselves.
+pub struct LinkFields {
     pub reserved_link_info_length: u16,
     pub link_type: u16,
     pub reserved_link_type: u16,
@@ -50,13 +49,28 @@ pub struct LinkInfo {
     pub dvb_binary_locator: LinkLocator,
     pub reserved_number_items: u16,
     pub number_items: usize,
-    pub items: [LinkItem; 63],
     pub default_icon_flag: bool,
     pub icon_id: u16,
     pub descriptors: Range,
 }
 
+// The record of a link: `number_items` of the items count, the others mean nothing.
+pub struct LinkInfo {
+    pub fields: LinkFields,
+    pub items: [LinkItem; LinkInfo::MOST_ITEMS],
+}
+
+impl Range {
+    // The last place that a range's 32 bits can tell.
+    pub const LAST: usize = 0xFFFF_FFFF;
+}
+
 impl LinkItem {
+    // The bytes of an item's language, and of its head: the language and the length of its text.
+    pub const LANGUAGE: usize = 3;
+
+    pub const HEAD: usize = LinkItem::LANGUAGE + 1;
+
     // An empty text in no language: what stands past the number of items.
     pub fn none() -> LinkItem
         ensures { λ r. ⌜ r ≡ noItem ⌝ }
@@ -75,17 +89,22 @@ impl LinkItem {
     }
 }
 
-impl LinkInfo {
-    // How many items a record holds.
-    pub const MOST_ITEMS: usize = Field::NUMBER_ITEMS.widest;
+impl LinkFields {
+    // The bytes of link type to precedence, of the URI's length, and of the items' number.
+    pub const HEAD: usize = 4;
 
-    // The record of nothing: all numbers 0, neither URI nor locator, no items. It stands beside a refusal.
-    pub fn none() -> LinkInfo
-        ensures { λ r. ⌜ r ≡ noLink ⌝ }
+    pub const URI_HEAD: usize = 1;
+
+    pub const COUNT: usize = 1;
+
+    // Where a URI starts, behind its length.
+    pub const URI_START: usize = LinkFields::HEAD + LinkFields::URI_HEAD;
+
+    // The fields of nothing: all numbers 0, neither URI nor locator.
+    pub fn none() -> LinkFields
+        ensures { λ r. ⌜ r ≡ noFields ⌝ }
     {
-        let none = LinkItem::none();
-        let items = [none; 63];
-        LinkInfo {
+        LinkFields {
             reserved_link_info_length: 0,
             link_type: 0,
             reserved_link_type: 0,
@@ -97,7 +116,6 @@ impl LinkInfo {
             dvb_binary_locator: LinkLocator::Absent,
             reserved_number_items: 0,
             number_items: 0,
-            items,
             default_icon_flag: false,
             icon_id: 0,
             descriptors: Range {
@@ -107,14 +125,29 @@ impl LinkInfo {
         }
     }
 
-    // The record with its reserved bits set to ones, as the standard has them.
-    pub fn with_reserved_ones(mut self) -> LinkInfo
-        ensures { λ r. ⌜ r ≡ newLink self ⌝ }
+    // The fields with their reserved bits set to ones, as the standard has them.
+    pub fn with_reserved_ones(mut self) -> LinkFields
+        ensures { λ r. ⌜ r ≡ onesFields self ⌝ }
     {
         self.reserved_link_info_length = Field::LINK_LENGTH_RESERVED.widest as u16;
         self.reserved_link_type = Field::LINK_TYPE_RESERVED.widest as u16;
         self.reserved_number_items = Field::NUMBER_ITEMS_RESERVED.widest as u16;
         self
+    }
+}
+
+impl LinkInfo {
+    // How many items a record holds.
+    pub const MOST_ITEMS: usize = Field::NUMBER_ITEMS.widest;
+
+    // The record of nothing: it stands beside a refusal.
+    pub fn none() -> LinkInfo
+        ensures { λ r. ⌜ r ≡ noLink ⌝ }
+    {
+        let none = LinkItem::none();
+        let items = [none; LinkInfo::MOST_ITEMS];
+        let fields = LinkFields::none();
+        LinkInfo { fields, items }
     }
 }
 

@@ -1,30 +1,111 @@
-// What is checked of a link's record before it is written. Fields that are absent are not checked.
+// What is checked of a link's record before it is written, and how long its body is. Fields that are absent are not
+// checked. The array of items is walked once, and handed on to nobody.
 ghost use mathlib.Core.Path.{_≡_};
-ghost use lib.ListN.{length, take};
-ghost use Rattle.field.specs.Fields.{checkField};
-ghost use Rattle.link_draft.specs.Checks.{firstIn, uriHere, locatorHere, checkPresence, checkHead, checkUri, checkPlace, checkText, checkItems, checkEnd, checkFields, checkRule, checkUriRange, checkTextRange, checkRanges, checkLink};
+ghost use Prim.Native.Nat.{_+_, _*_, _≤_};
+ghost use Rattle.field.specs.Fields.{numberItems, checkField};
+ghost use Rattle.link.specs.Syntax.{itemHead};
+ghost use Rattle.locator.specs.Writing.{longestWritten};
+ghost use Rattle.link_draft.specs.Checks.{uriHere, locatorHere, checkPresence, checkHead, linkChecked};
+ghost use Rattle.link_checker.specs.Stages.{noRanges, joined, rangeChecked, uriChecked, mostRange, locatorChecked, fieldsChecked, allChecked};
 use field::Field;
+use link::LinkFields;
 use link::LinkInfo;
 use link::LinkItem;
 use link::LinkLocator;
 use link::MediaUri;
 use link::Range;
+use link_draft::LinkChecked;
 use link_draft::check_range;
 use link_draft::held;
+use wire::lengths::LengthField;
 use wire::verdict::Refusal;
 use wire::verdict::Verdict;
 use wire::verdict::first_of;
 
-// Refusals 23, 22, 24 and 25, in this order, of a record whose ranges are of `text`.
-pub fn check_link(text: &[u8], link: LinkInfo) -> Verdict
-    ensures { λ r. ⌜ r ≡ checkLink (now (text .entry)) link ⌝ }
+// Of some parts of the body that are ranges of the text: the first length that is too wide for its field, the first range
+// past the text, and how many bytes they have with their heads.
+struct RangesChecked {
+    narrow: Verdict,
+    within: Verdict,
+    length: usize,
+}
+
+// Of the locator: the first field that is too wide, whether the windows are as the rule has them, and how many bytes it has.
+struct LocatorChecked {
+    narrow: Verdict,
+    rule: Verdict,
+    length: usize,
+}
+
+// Refusals 23, 22, 24 and 25, in this order, of a record whose ranges are of `text`; and the length of its body.
+pub fn check_link(text: &[u8], link: LinkInfo) -> LinkChecked
+    ensures { λ r. ⌜ r ≡ linkChecked (now (text .entry)) link ⌝ }
 {
-    let locator = link.dvb_binary_locator;
-    let presence = check_presence(link);
-    let fields = check_fields(link);
-    let rule = check_rule(locator);
-    let ranges = check_ranges(text.len(), link);
-    first_of(presence, first_of(fields, first_of(rule, ranges)))
+    let items = link.items;
+    let fields = link.fields;
+    let have = text.len();
+    let n = held(fields.number_items);
+    let mut texts = RangesChecked::none();
+    let mut i: usize = 0;
+    while i < n {
+        let item = items[i];
+        let found = check_ranged(
+            have,
+            LinkItem::HEAD,
+            Field::TEXT_LENGTH,
+            item.promotional_text,
+        );
+        texts = texts.joined(found);
+        i += 1;
+    }
+    check_all(have, fields, texts)
+}
+
+// All besides the items' texts, of which `texts` tells.
+fn check_all(have: usize, fields: LinkFields, texts: RangesChecked) -> LinkChecked
+    requires { ⌜ texts .length ≤ numberItems .widest * mostRange ⌝ }
+    ensures { λ r. ⌜ r ≡ allChecked have fields texts ⌝ }
+{
+    let media_uri = fields.media_uri;
+    let link_locator = fields.dvb_binary_locator;
+    let uri = check_uri(have, media_uri);
+    let locator = check_locator(link_locator);
+    let descriptors = check_ranged(
+        have,
+        LengthField::BYTES,
+        Field::DESCRIPTOR_LENGTH,
+        fields.descriptors,
+    );
+    let ranges = uri.joined(texts.joined(descriptors));
+    let presence = check_presence(fields);
+    let narrow = check_fields(fields, uri, locator, texts, descriptors);
+    let rule = locator.rule;
+    let within = ranges.within;
+    LinkChecked {
+        verdict: first_of(presence, first_of(narrow, first_of(rule, within))),
+        length: LinkFields::HEAD + locator.length + LinkFields::COUNT + ranges.length,
+    }
+}
+
+// 23: what is there agrees with the link type, which may be wider than its field.
+fn check_presence(fields: LinkFields) -> Verdict
+    ensures { λ r. ⌜ r ≡ checkPresence fields ⌝ }
+{
+    let uri = fields.media_uri;
+    let locator = fields.dvb_binary_locator;
+    let link_type = fields.link_type;
+    let against = Verdict::Refused(Refusal {
+        number: Refusal::AGAINST_TYPE,
+        first: link_type as usize,
+        second: 0,
+    });
+    if uri_here(uri) != link::has_uri(link_type) {
+        return against;
+    }
+    if locator_here(locator) != link::has_locator(link_type) {
+        return against;
+    }
+    Verdict::Fine
 }
 
 fn uri_here(uri: MediaUri) -> bool
@@ -45,167 +126,122 @@ fn locator_here(locator: LinkLocator) -> bool
     }
 }
 
-// 23: what is there agrees with the link type, which may be wider than its field.
-fn check_presence(link: LinkInfo) -> Verdict
-    ensures { λ r. ⌜ r ≡ checkPresence link ⌝ }
+// 22 of the lowest rank that is too wide, with what was found of the ranks that are looked at elsewhere.
+fn check_fields(
+    fields: LinkFields,
+    uri: RangesChecked,
+    locator: LocatorChecked,
+    texts: RangesChecked,
+    descriptors: RangesChecked,
+) -> Verdict
+    ensures { λ r. ⌜ r ≡ fieldsChecked fields (uri .narrow) (locator .narrow) (texts .narrow) (descriptors .narrow) ⌝ }
 {
-    let uri = link.media_uri;
-    let locator = link.dvb_binary_locator;
-    let link_type = link.link_type;
-    let against = Verdict::Refused(Refusal {
-        number: Refusal::AGAINST_TYPE,
-        first: link_type as usize,
-        second: 0,
-    });
-    if uri_here(uri) != link::has_uri(link_type) {
-        return against;
-    }
-    if locator_here(locator) != link::has_locator(link_type) {
-        return against;
-    }
-    Verdict::Fine
+    let rank7 = uri.narrow;
+    let rank8 = locator.narrow;
+    let rank16 = texts.narrow;
+    let rank17 = descriptors.narrow;
+    let rank1 = check_head(fields);
+    let rank14 = Field::NUMBER_ITEMS.check(fields.number_items);
+    let rank15 = narrow(Field::NUMBER_ITEMS_RESERVED, fields.reserved_number_items);
+    let rank18 = narrow(Field::ICON_ID, fields.icon_id);
+    let rank19 = narrow(
+        Field::LINK_LENGTH_RESERVED,
+        fields.reserved_link_info_length,
+    );
+    let end = first_of(rank17, first_of(rank18, rank19));
+    let items = first_of(first_of(rank14, rank15), first_of(rank16, end));
+    first_of(rank1, first_of(rank7, first_of(rank8, items)))
 }
 
-// 22 of a field that is carried in 16 bits, and of one that holds a range's length.
+// 22 of ranks 1 to 6.
+fn check_head(fields: LinkFields) -> Verdict
+    ensures { λ r. ⌜ r ≡ checkHead fields ⌝ }
+{
+    let related = narrow(Field::HOW_RELATED, fields.how_related);
+    let term = narrow(Field::TERM_ID, fields.term_id);
+    let link_type = narrow(Field::LINK_TYPE, fields.link_type);
+    let reserved = narrow(Field::LINK_TYPE_RESERVED, fields.reserved_link_type);
+    let group = narrow(Field::GROUP_ID, fields.group_id);
+    let precedence = narrow(Field::PRECEDENCE, fields.precedence);
+    let last = first_of(reserved, first_of(group, precedence));
+    first_of(related, first_of(term, first_of(link_type, last)))
+}
+
+// 22 of a field that is carried in 16 bits.
 fn narrow(field: Field, number: u16) -> Verdict
     ensures { λ r. ⌜ r ≡ checkField field number ⌝ }
 {
     field.check(number as usize)
 }
 
-fn short(field: Field, range: Range) -> Verdict
-    ensures { λ r. ⌜ r ≡ checkField field (range .length) ⌝ }
-{
-    field.check(range.length as usize)
-}
-
-// 22 of places 1 to 6.
-fn check_head(link: LinkInfo) -> Verdict
-    ensures { λ r. ⌜ r ≡ checkHead link ⌝ }
-{
-    let related = narrow(Field::HOW_RELATED, link.how_related);
-    let term = narrow(Field::TERM_ID, link.term_id);
-    let link_type = narrow(Field::LINK_TYPE, link.link_type);
-    let reserved = narrow(Field::LINK_TYPE_RESERVED, link.reserved_link_type);
-    let group = narrow(Field::GROUP_ID, link.group_id);
-    let precedence = narrow(Field::PRECEDENCE, link.precedence);
-    let last = first_of(reserved, first_of(group, precedence));
-    first_of(related, first_of(term, first_of(link_type, last)))
-}
-
-fn check_uri(uri: MediaUri) -> Verdict
-    ensures { λ r. ⌜ r ≡ checkUri uri ⌝ }
+fn check_uri(have: usize, uri: MediaUri) -> RangesChecked
+    ensures { λ r. ⌜ (r ≡ uriChecked have uri) × (r .length ≤ mostRange) ⌝ }
 {
     match uri {
-        MediaUri::Absent => Verdict::Fine,
-        MediaUri::Present(range) => short(Field::URI_LENGTH, range),
+        MediaUri::Absent => RangesChecked::none(),
+        MediaUri::Present(range) => check_ranged(
+            have,
+            LinkFields::URI_HEAD,
+            Field::URI_LENGTH,
+            range,
+        ),
     }
 }
 
-fn check_place(locator: LinkLocator) -> Verdict
-    ensures { λ r. ⌜ r ≡ checkPlace locator ⌝ }
+fn check_locator(locator: LinkLocator) -> LocatorChecked
+    ensures { λ r. ⌜ (r ≡ locatorChecked locator) × (r .length ≤ longestWritten) ⌝ }
 {
     match locator {
-        LinkLocator::Absent => Verdict::Fine,
-        LinkLocator::Present(l) => locator_writer::checks::check_fields(l),
+        LinkLocator::Absent => LocatorChecked {
+            narrow: Verdict::Fine,
+            rule: Verdict::Fine,
+            length: 0,
+        },
+        LinkLocator::Present(l) => LocatorChecked {
+            narrow: locator_checker::check_fields(l),
+            rule: locator_checker::check_windows(l),
+            length: l.length(),
+        },
     }
 }
 
-// 22 of the counted items' texts.
-fn check_texts(items: [LinkItem; 63], count: usize) -> Verdict
-    ensures { λ r. ⌜ r ≡ firstIn checkText (take count items) ⌝ }
+// One range, whose length the field holds, behind `head` bytes of its own.
+fn check_ranged(have: usize, head: usize, field: Field, range: Range) -> RangesChecked
+    requires { ⌜ head ≤ itemHead ⌝ }
+    ensures { λ r. ⌜ (r ≡ rangeChecked have head field range) × (r .length ≤ mostRange) ⌝ }
 {
-    let n = held(count);
-    let mut i: usize = 0;
-    while i < n {
-        let item = items[i];
-        let text = short(Field::TEXT_LENGTH, item.promotional_text);
-        let Verdict::Fine = text else {
-            return text;
-        };
-        i += 1;
-    }
-    Verdict::Fine
-}
-
-// 22 of places 14 to 16: a count that is too large answers, whatever the items.
-fn check_items(link: LinkInfo) -> Verdict
-    ensures { λ r. ⌜ r ≡ checkItems link ⌝ }
-{
-    let items = link.items;
-    let count = link.number_items;
-    let number = Field::NUMBER_ITEMS.check(count);
-    let reserved = narrow(Field::NUMBER_ITEMS_RESERVED, link.reserved_number_items);
-    let texts = check_texts(items, count);
-    first_of(number, first_of(reserved, texts))
-}
-
-// 22 of places 17 to 19.
-fn check_end(link: LinkInfo) -> Verdict
-    ensures { λ r. ⌜ r ≡ checkEnd link ⌝ }
-{
-    let descriptors = short(Field::DESCRIPTOR_LENGTH, link.descriptors);
-    let icon = narrow(Field::ICON_ID, link.icon_id);
-    let reserved = narrow(Field::LINK_LENGTH_RESERVED, link.reserved_link_info_length);
-    first_of(descriptors, first_of(icon, reserved))
-}
-
-// 22 of the lowest place that is too wide.
-fn check_fields(link: LinkInfo) -> Verdict
-    ensures { λ r. ⌜ r ≡ checkFields link ⌝ }
-{
-    let media_uri = link.media_uri;
-    let locator = link.dvb_binary_locator;
-    let head = check_head(link);
-    let uri = check_uri(media_uri);
-    let place = check_place(locator);
-    let items = check_items(link);
-    let end = check_end(link);
-    first_of(head, first_of(uri, first_of(place, first_of(items, end))))
-}
-
-fn check_rule(locator: LinkLocator) -> Verdict
-    ensures { λ r. ⌜ r ≡ checkRule locator ⌝ }
-{
-    match locator {
-        LinkLocator::Absent => Verdict::Fine,
-        LinkLocator::Present(l) => locator_writer::checks::check_windows(l),
+    let length = range.length as usize;
+    RangesChecked {
+        narrow: field.check(length),
+        within: check_range(have, range),
+        length: head + length,
     }
 }
 
-fn check_uri_range(have: usize, uri: MediaUri) -> Verdict
-    ensures { λ r. ⌜ r ≡ checkUriRange have uri ⌝ }
-{
-    match uri {
-        MediaUri::Absent => Verdict::Fine,
-        MediaUri::Present(range) => check_range(have, range),
+impl RangesChecked {
+    fn none() -> RangesChecked
+        ensures { λ r. ⌜ r ≡ noRanges ⌝ }
+    {
+        RangesChecked {
+            narrow: Verdict::Fine,
+            within: Verdict::Fine,
+            length: 0,
+        }
     }
-}
 
-fn check_text_ranges(have: usize, items: [LinkItem; 63], count: usize) -> Verdict
-    ensures { λ r. ⌜ r ≡ firstIn (checkTextRange have) (take count items) ⌝ }
-{
-    let n = held(count);
-    let mut i: usize = 0;
-    while i < n {
-        let item = items[i];
-        let text = check_range(have, item.promotional_text);
-        let Verdict::Fine = text else {
-            return text;
-        };
-        i += 1;
+    // These, then those: the items' texts, the URI and the descriptors at most.
+    fn joined(self, behind: RangesChecked) -> RangesChecked
+        requires { ⌜ self .length + behind .length ≤ (numberItems .widest + 2) * mostRange ⌝ }
+        ensures { λ r. ⌜ r ≡ joined self behind ⌝ }
+    {
+        let narrow = self.narrow;
+        let within = self.within;
+        let narrow_behind = behind.narrow;
+        let within_behind = behind.within;
+        RangesChecked {
+            narrow: first_of(narrow, narrow_behind),
+            within: first_of(within, within_behind),
+            length: self.length + behind.length,
+        }
     }
-    Verdict::Fine
-}
-
-// 25 of the first range past the text: the URI's, then the items', then the descriptors'.
-fn check_ranges(have: usize, link: LinkInfo) -> Verdict
-    ensures { λ r. ⌜ r ≡ checkRanges have link ⌝ }
-{
-    let media_uri = link.media_uri;
-    let items = link.items;
-    let uri = check_uri_range(have, media_uri);
-    let texts = check_text_ranges(have, items, link.number_items);
-    let descriptors = check_range(have, link.descriptors);
-    first_of(uri, first_of(texts, descriptors))
 }

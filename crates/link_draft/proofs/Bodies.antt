@@ -1,104 +1,170 @@
--- The parts of a body make the body, there is room for each where there is room for the whole, and what is written is
--- what the definitions of the answer and of the buffer say.
+-- The parts of a body, joined, are the syntax's bytes where the record passes its checks, and are never longer than the
+-- record says.
 -- Assumes nothing.
-use Prim.Native.Nat.{ℕ, _+_, _*_, _≤_, _<_}
-use mathlib.Core.Path.{_≡_, refl, ap, _∙_}
-use mathlib.Core.List.{List, [], _∷_, map}
+use Prim.Native.Nat.{ℕ, _+_, _*_, _≤_}
+use mathlib.Core.Path.{_≡_, refl, sym, ap, _∙_}
+use mathlib.Core.Bool.{Bool, true, false}
+use mathlib.Core.List.{List, [], _∷_, _++_, map, flatten, append-assoc, append-nil}
 use native.Mathlib.Omega.{arith}
-use lib.ListN.{length, length-map, length-take}
-use borrow.Author.Tests.{le-leb, lt-leb}
-use Rattle.field.specs.Fields.{numberItems}
-use Rattle.wire.specs.Lengths.{blockBytes}
-use Rattle.wire.specs.Stores.{Wrote}
-use Rattle.wire.specs.declared.verdict.Refusal.{Refusal}
-use Rattle.wire.specs.declared.verdict.Verdict.the-variants.{Fine, Refused}
-use Rattle.wire.proofs.Writing.{then, wrote-length}
-use Rattle.link.specs.Syntax.{fieldBytes, uriBytes, placeBytes, itemsBytes, tailOf, linkBody}
-use Rattle.link.specs.Records.{itemOf, uriOf, locatorOf, itemsOf, linkOf}
+use lib.Dec.{leb}
+use lib.ListN.{length, length-append, length-map, length-take}
+use Rattle.wire.specs.Choice.{pick}
+use Rattle.wire.specs.Lengths.{lengthBytes, blockBytes}
+use Rattle.wire.specs.Spans.{span, spanOf, spanIn}
+use Rattle.wire.specs.declared.verdict.Verdict.the-variants.{Fine}
+use Rattle.wire.proofs.SpanLaws.{span-inside}
+use Rattle.wire.proofs.Verdicts.{then-fine}
+use Rattle.field.specs.Fields.{howRelated, termId, linkType, linkTypeReserved, groupId, precedence, uriLength, numberItemsReserved, textLength, descriptorLength, iconId, low}
+use Rattle.field.specs.declared.Field.{Field}
+use Rattle.field.proofs.Checks.{field-passed, low-whole}
+use Rattle.locator.specs.Syntax.{locatorBytes}
+use Rattle.locator.specs.Writing.{narrowed}
+use Rattle.locator.proofs.Sizes.{bytes-length}
+use Rattle.locator.proofs.Written.{narrowed-length, written-checked}
+use Rattle.link.specs.Syntax.{fieldBytes, uriBytes, locatorPart, itemBytes, itemsBytes, tailOf, linkBody}
+use Rattle.link.specs.Records.{rangeOf, itemOf, uriOf, locatorOf, itemsOf, linkOf}
+use Rattle.link.specs.declared.Range.{Range}
+use Rattle.link.specs.declared.LinkItem.{LinkItem}
+use Rattle.link.specs.declared.MediaUri.{MediaUri}
+use Rattle.link.specs.declared.MediaUri.the-variants as uri
+use Rattle.link.specs.declared.LinkLocator.{LinkLocator}
+use Rattle.link.specs.declared.LinkLocator.the-variants as locator
+use Rattle.link.specs.declared.LinkFields.{LinkFields}
 use Rattle.link.specs.declared.LinkInfo.{LinkInfo}
-use Rattle.link_draft.specs.Checks.{checkLink}
-use Rattle.link_draft.specs.Lengths.{headLength, countLength, tailHead, uriSize, placeSize, itemsSize, linkLength}
-use Rattle.link_draft.specs.Carried.{RangesWithin}
-use Rattle.link_draft.specs.Writing.{answerBy, putBy, linkWritten, linkPut}
-use Rattle.link_draft.specs.declared.writing.LinkWritten.the-variants as written
-use Rattle.link_draft.proofs.Sizes.{uri-length, place-length, items-length, length-is}
+use Rattle.link_draft.specs.Checks.{firstIn, checkUri, checkLocatorFields, checkText, checkLink}
+use Rattle.link_draft.specs.Carried.{Each, HeadNarrow, EndNarrow, Within, UriWithin, TextWithin}
+use Rattle.link_draft.specs.Lengths.{tailHead, uriSize, locatorSize, itemsSize, linkLength}
+use Rattle.link_draft.specs.Writing.{rangeIn, headBytes, headed, uriParts, locatorParts, countBytes, frontParts, itemParts, itemsParts, tailParts, linkParts}
+use Rattle.link_draft.proofs.Sizes.{range-length}
 use Rattle.link_draft.proofs.Exact.{passed}
+use Rattle.link_draft.proofs.Parts.{flatten-append}
 
--- what was written has left room for the rest
-on : {xs vs ys : List ℕ} {at p : ℕ} (n rest : ℕ) → Wrote xs at vs ys p → length vs ≡ n → at + (n + rest) ≤ length xs → p + rest ≤ length ys
-on n rest w l h = omega (arith, w .place, wrote-length w)
+-- ---- what passes is written as it is
 
-module _ (t b : List ℕ) (at : ℕ) (k : LinkInfo) (w : RangesWithin t k) (h : at + linkLength k ≤ length b) where
-  abbrev end-size : ℕ
-  end-size = tailHead + k .descriptors .length
+range-in : (t : List ℕ) (r : Range) → Within t r → rangeIn t r ≡ rangeOf t r
+unfolding rangeIn
+range-in t r w = rw (span-inside t (span (r .start) (r .length)) w)
 
-  abbrev items-rest : ℕ
-  items-rest = itemsSize (itemsOf k) + end-size
+headed-flat : (t head : List ℕ) (r : Range) → Within t r → flatten (headed t head r) ≡ head ++ rangeOf t r
+unfolding flatten
+headed-flat t head r w = rw (append-nil (rangeIn t r), range-in t r w)
 
-  abbrev count-rest : ℕ
-  count-rest = countLength + items-rest
+-- the length before a range that lies in the text is that of its bytes
+length-low : (f : Field) (t : List ℕ) (r : Range) → Within t r → r .length ≤ f .widest → low f (r .length) ≡ length (rangeOf t r)
+length-low f t r w h = low-whole f (r .length) h ∙ sym (range-length t r w)
 
-  abbrev place-rest : ℕ
-  place-rest = placeSize (k .«dvb_binary_locator») + count-rest
+head-flat : (t : List ℕ) (k : LinkInfo) → HeadNarrow (k .fields) → headBytes (k .fields) ≡ fieldBytes (linkOf t k)
+unfolding headBytes fieldBytes linkOf
+head-flat t k n =
+    rw (low-whole linkType _ (n .type), low-whole linkTypeReserved _ (n .reserved), low-whole howRelated _ (n .related), low-whole termId _ (n .term), low-whole groupId _ (n .group), low-whole precedence _ (n .precedence))
 
-  pub head-room : at + 4 ≤ length b
-  unfolding linkLength
-  head-room = omega arith
+uri-flat : (t : List ℕ) (u : MediaUri) → UriWithin t u → checkUri u ≡ Fine → flatten (uriParts t u) ≡ uriBytes (uriOf t u)
+unfolding uriParts uriBytes checkUri
+uri-flat t uri.Absent w e = unfold flatten in refl
+uri-flat t (uri.Present r) w e =
+    headed-flat t _ r w ∙ ap (λ n. n ∷ rangeOf t r) (length-low uriLength t r w (field-passed uriLength (r .length) e))
 
-  module _ {b₁ : List ℕ} {p₁ : ℕ} (w₁ : Wrote b at (fieldBytes (linkOf [] k)) b₁ p₁) where
-    uri-left : p₁ + (uriSize (k .«media_uri») + place-rest) ≤ length b₁
-    unfolding linkLength fieldBytes
-    uri-left = on headLength (uriSize (k .«media_uri») + place-rest) w₁ refl (omega arith)
+locator-flat : (m : LinkLocator) → checkLocatorFields m ≡ Fine → flatten (locatorParts m) ≡ locatorPart (locatorOf m)
+unfolding locatorParts locatorPart checkLocatorFields flatten
+locator-flat locator.Absent e = refl
+locator-flat (locator.Present l) e = append-nil _ ∙ ap locatorBytes (written-checked l e .same)
 
-    pub uri-room : p₁ + uriSize (k .«media_uri») ≤ length b₁
-    uri-room = omega (arith, uri-left)
+item-flat : (t : List ℕ) (i : LinkItem) → TextWithin t i → checkText i ≡ Fine → flatten (itemParts t i) ≡ itemBytes (itemOf t i)
+unfolding itemParts itemBytes
+item-flat t i w e =
+    let l = i .«language_code» in
+    let r = i .«promotional_text» in
+    headed-flat t _ r w ∙ ap (λ n. l .first ∷ l .second ∷ l .third ∷ n ∷ rangeOf t r) (length-low textLength t r w (field-passed textLength (r .length) e))
 
-    module _ {b₂ : List ℕ} {p₂ : ℕ} (w₂ : Wrote b₁ p₁ (uriBytes (uriOf t (k .«media_uri»))) b₂ p₂) where
-      place-left : p₂ + place-rest ≤ length b₂
-      place-left = on (uriSize (k .«media_uri»)) place-rest w₂ (uri-length t (k .«media_uri») (w .uri)) uri-left
+items-flat : (t : List ℕ) (is : List LinkItem) → Each (TextWithin t) is → firstIn checkText is ≡ Fine → flatten (itemsParts t is) ≡ itemsBytes (map (itemOf t) is)
+unfolding itemsParts itemsBytes firstIn
+items-flat t [] w e = unfold flatten in refl
+items-flat t (i ∷ is) w e =
+    let two = then-fine (checkText i) (firstIn checkText is) e in
+    flatten-append (itemParts t i) (itemsParts t is) ∙ rw (item-flat t i (w .0) (two .0), items-flat t is (w .1) (two .1))
 
-      pub place-room : p₂ + placeSize (k .«dvb_binary_locator») ≤ length b₂
-      place-room = omega (arith, place-left)
+tail-flat : (t : List ℕ) (k : LinkInfo) → EndNarrow (k .fields) → Within t (k .fields .descriptors) → flatten (tailParts t (k .fields)) ≡ blockBytes (tailOf (linkOf t k))
+unfolding tailParts blockBytes linkOf
+tail-flat t k n w =
+    let r = k .fields .descriptors in
+    headed-flat t _ r w ∙ rw (low-whole iconId _ (n .icon), length-low descriptorLength t r w (n .short))
 
-      module _ {b₃ : List ℕ} {p₃ : ℕ} (w₃ : Wrote b₂ p₂ (placeBytes (locatorOf (k .«dvb_binary_locator»))) b₃ p₃) where
-        count-left : p₃ + count-rest ≤ length b₃
-        count-left = on (placeSize (k .«dvb_binary_locator»)) count-rest w₃ (place-length (k .«dvb_binary_locator»)) place-left
+-- the parts before the items, one by one
+front-flat : (t : List ℕ) (f : LinkFields) (n : ℕ) → flatten (frontParts t f n) ≡ headBytes f ++ (flatten (uriParts t (f .«media_uri»)) ++ (flatten (locatorParts (f .«dvb_binary_locator»)) ++ countBytes f n))
+unfolding frontParts flatten
+front-flat t f n =
+    rw (flatten-append (uriParts t (f .«media_uri»)) _, flatten-append (locatorParts (f .«dvb_binary_locator»)) _)
 
-        pub count-room : p₃ + 1 ≤ length b₃
-        count-room = omega (arith, count-left)
+pub link-flat : (t : List ℕ) (k : LinkInfo) → flatten (linkParts t k)
+    ≡ (headBytes (k .fields) ++ (flatten (uriParts t (k .fields .«media_uri»)) ++ (flatten (locatorParts (k .fields .«dvb_binary_locator»)) ++ countBytes (k .fields) (length (itemsOf k)))))
+    ++ (flatten (itemsParts t (itemsOf k)) ++ flatten (tailParts t (k .fields)))
+unfolding linkParts
+link-flat t k =
+    let f = k .fields in
+    rw (flatten-append (frontParts t f (length (itemsOf k))) _, flatten-append (itemsParts t (itemsOf k)) (tailParts t f), front-flat t f (length (itemsOf k)))
 
-        module _ {b₄ : List ℕ} {p₄ : ℕ} (w₄ : Wrote b₃ p₃ ((k .«reserved_number_items» * 64 + k .«number_items») ∷ []) b₄ p₄) where
-          items-left : p₄ + items-rest ≤ length b₄
-          items-left = on countLength items-rest w₄ refl count-left
+regroup : (F U L I T : List ℕ) (n : ℕ) → (F ++ (U ++ (L ++ (n ∷ [])))) ++ (I ++ T) ≡ F ++ (U ++ (L ++ ((n ∷ I) ++ T)))
+regroup F U L I T n = simp append-assoc
 
-          pub items-room : p₄ + itemsSize (itemsOf k) ≤ length b₄
-          items-room = omega (arith, items-left)
+pub parts-flat : (t : List ℕ) (k : LinkInfo) → checkLink t k ≡ Fine → flatten (linkParts t k) ≡ linkBody (linkOf t k)
+unfolding linkBody linkOf
+parts-flat t k e =
+    let p = passed t k e in
+    let w = p .stands .ranges in
+    let f = k .fields in
+    let l = linkOf t k in
+    let count : length (map (itemOf t) (itemsOf k)) ≡ length (itemsOf k) = length-map (itemsOf k) (itemOf t) in
+    link-flat t k
+    ∙ rw (
+      head-flat t k (p .head),
+      uri-flat t (f .«media_uri») (w .uri) (p .uri),
+      locator-flat (f .«dvb_binary_locator») (p .locator),
+      low-whole numberItemsReserved _ (p .reserved),
+      items-flat t (itemsOf k) (w .texts) (p .texts),
+      tail-flat t k (p .end) (w .descriptors),
+      count,
+    )
+    (regroup (fieldBytes l) (uriBytes (l .uri)) (locatorPart (l .locator)) (itemsBytes (l .items)) (blockBytes (tailOf l)) (l .itemsReserved * 64 + length (itemsOf k)))
 
-          module _ {b₅ : List ℕ} {p₅ : ℕ} (w₅ : Wrote b₄ p₄ (itemsBytes (map (itemOf t) (itemsOf k))) b₅ p₅) where
-            pub tail-room : p₅ + end-size ≤ length b₅
-            tail-room = on (itemsSize (itemsOf k)) end-size w₅ (items-length t (itemsOf k) (w .texts)) items-left
+-- ---- whatever the record, no longer than it says
 
-            pub body-wrote : {b₆ : List ℕ} {p₆ : ℕ} → length (k .items) ≡ numberItems .widest → k .«number_items» ≤ numberItems .widest
-                → Wrote b₅ p₅ (blockBytes (tailOf (linkOf t k))) b₆ p₆ → Wrote b at (linkBody (linkOf t k)) b₆ p₆
-            unfolding linkBody linkOf fieldBytes
-            body-wrote a c w₆ =
-                let n : length (map (itemOf t) (itemsOf k)) ≡ k .«number_items» = length-map (itemsOf k) (itemOf t) ∙ length-take (k .«number_items») (k .items) ∙ omega arith in
-                rw n (then w₁ (then w₂ (then w₃ (then (then w₄ w₅) w₆))))
+range-few : (t : List ℕ) (r : Range) → length (rangeIn t r) ≤ r .length
+unfolding rangeIn spanIn
+range-few t r = by (leb (r .start + r .length) (length t))
+  where
+    by : (b : Bool) → length (spanOf t (pick b (span (r .start) (r .length)) (span 0 0))) ≤ r .length
+    by true = rw length-take (omega arith)
+    by false = omega arith
 
--- ---- the answer and the buffer
+headed-few : (t head : List ℕ) (r : Range) → length (flatten (headed t head r)) ≤ length head + r .length
+unfolding flatten
+headed-few t head r = rw (append-nil (rangeIn t r), length-append) (omega (arith, range-few t r))
 
-module _ (t b : List ℕ) (at : ℕ) (k : LinkInfo) where
-  pub refused-written : (r : Refusal) → checkLink t k ≡ Refused r → (written.Refused r ≡ linkWritten b at t k) × (b ≡ linkPut b at t k)
-  unfolding linkWritten linkPut answerBy putBy
-  refused-written r e = (rw e, rw e)
+uri-few : (t : List ℕ) (u : MediaUri) → length (flatten (uriParts t u)) ≤ uriSize u
+unfolding uriParts uriSize
+uri-few t uri.Absent = unfold flatten in omega arith
+uri-few t (uri.Present r) = headed-few t (low uriLength (r .length) ∷ []) r
 
-  pub full-written : checkLink t k ≡ Fine → length b < at + linkLength k → (written.NoRoom ≡ linkWritten b at t k) × (b ≡ linkPut b at t k)
-  unfolding linkWritten linkPut answerBy putBy
-  full-written e h = (rw (e, lt-leb _ _ h), rw (e, lt-leb _ _ h))
+locator-few : (m : LinkLocator) → length (flatten (locatorParts m)) ≡ locatorSize m
+unfolding locatorParts locatorSize flatten
+locator-few locator.Absent = refl
+locator-few (locator.Present l) = ap length (append-nil (locatorBytes (narrowed l))) ∙ bytes-length (narrowed l) ∙ narrowed-length l
 
-  pub done-written : (b′ : List ℕ) (next : ℕ) → checkLink t k ≡ Fine → at + linkLength k ≤ length b → Wrote b at (linkBody (linkOf t k)) b′ next
-      → (written.Done next ≡ linkWritten b at t k) × (b′ ≡ linkPut b at t k)
-  unfolding linkWritten linkPut answerBy putBy
-  done-written b′ next e h w =
-      let n : next ≡ at + linkLength k = w .place ∙ ap (λ m. at + m) (length-is t k (passed t k e .stands .ranges)) in
-      (rw (e, le-leb _ _ h) (ap (λ m. written.Done m) n), rw (e, le-leb _ _ h) (w .bytes))
+items-few : (t : List ℕ) (is : List LinkItem) → length (flatten (itemsParts t is)) ≤ itemsSize is
+unfolding itemsParts itemsSize itemParts
+items-few t [] = unfold flatten in omega arith
+items-few t (i ∷ is) =
+    let language = i .«language_code» in
+    let r = i .«promotional_text» in
+    let one = headed-few t (language .first ∷ language .second ∷ language .third ∷ low textLength (r .length) ∷ []) r in
+    rw (flatten-append (itemParts t i) (itemsParts t is), length-append) (omega (arith, one, items-few t is))
+
+tail-few : (t : List ℕ) (f : LinkFields) → length (flatten (tailParts t f)) ≤ tailHead + f .descriptors .length
+unfolding tailParts lengthBytes
+tail-few t f = headed-few t (lengthBytes _ _) (f .descriptors)
+
+pub parts-few : (t : List ℕ) (k : LinkInfo) → length (flatten (linkParts t k)) ≤ linkLength k
+unfolding linkLength headBytes fieldBytes
+parts-few t k =
+    let f = k .fields in
+    rw (link-flat t k) (simp length-append (omega (arith, uri-few t (f .«media_uri»), locator-few (f .«dvb_binary_locator»), items-few t (itemsOf k), tail-few t f)))

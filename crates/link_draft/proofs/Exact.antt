@@ -1,32 +1,31 @@
 -- The checks are passed exactly by the records that stand for a link that fits.
 -- Assumes nothing.
-use Prim.Native.Nat.{ℕ, _*_, _+_, _≤_, _<_, min}
+use Prim.Native.Nat.{ℕ, min, _≤_}
 use mathlib.Core.Path.{_≡_, refl, sym, _∙_}
-use mathlib.Core.Bool.{xor}
 use mathlib.Core.List.{List, [], _∷_, map}
 use mathlib.Core.Logic.{_↔_}
 use native.Mathlib.Omega.{arith}
 use lib.ListN.{length, length-map, length-take}
 use Rattle.field.specs.Fields.{howRelated, termId, linkType, linkTypeReserved, groupId, precedence, uriLength, numberItems, numberItemsReserved, textLength, descriptorLength, iconId, linkLengthReserved}
+use Rattle.field.proofs.Checks.{field-passed, field-pass}
 use Rattle.wire.specs.Lists.{Bytes}
-use Rattle.wire.specs.Verdict.{bad, refuse, _▷_}
 use Rattle.wire.specs.declared.verdict.Verdict.the-variants.{Fine}
-use Rattle.wire.proofs.Parts.{bytes-part}
-use Rattle.wire.proofs.Verdicts.{then-fine, fine-then}
+use Rattle.wire.proofs.Lists.{bytes-part}
+use Rattle.wire.proofs.Verdicts.{then-fine, fine-then, agree-passed, agree-pass}
 use Rattle.locator.proofs.Checked.{fields-narrow, narrow-fields, windows-ruled, ruled-windows}
-use Rattle.link.specs.Syntax.{LinkFits, UriFits, PlaceFits, ItemsFit, here, uriDue, locatorDue}
+use Rattle.link.specs.Syntax.{LinkFits, UriFits, LocatorFits, ItemsFit, here, uriDue, locatorDue}
 use Rattle.link.specs.Records.{itemOf, uriOf, locatorOf, itemsOf, linkOf}
 use Rattle.link.specs.declared.LinkItem.{LinkItem}
 use Rattle.link.specs.declared.MediaUri.{MediaUri}
 use Rattle.link.specs.declared.MediaUri.the-variants as uri
 use Rattle.link.specs.declared.LinkLocator.{LinkLocator}
-use Rattle.link.specs.declared.LinkLocator.the-variants as place
+use Rattle.link.specs.declared.LinkLocator.the-variants as locator
+use Rattle.link.specs.declared.LinkFields.{LinkFields}
 use Rattle.link.specs.declared.LinkInfo.{LinkInfo}
-use Rattle.link_draft.specs.Checks.{firstIn, uriHere, locatorHere, checkPresence, checkHead, checkUri, checkPlace, checkText, checkItems, checkEnd, checkFields, checkRule, checkUriRange, checkTextRange, checkRanges, checkLink}
-use Rattle.link_draft.specs.Lengths.{uriHead, itemHead, uriSize, placeSize, itemsSize, linkLength}
-use Rattle.link_draft.specs.Carried.{Each, ItemCarried, PlaceCarried, Carried, UriWithin, TextWithin, RangesWithin, Stands, HeadNarrow, EndNarrow}
-use Rattle.link_draft.proofs.Sizes.{range-length, locator-short}
-use Rattle.link_draft.proofs.Rows.{field-passed, field-pass, agree-passed, agree-pass, range-passed, range-pass, each-passed, each-pass, each-take}
+use Rattle.link_draft.specs.Checks.{firstIn, uriHere, locatorHere, checkPresence, checkHead, checkUri, checkLocatorFields, checkCount, checkText, checkEnd, checkFields, checkLocatorRule, checkUriRange, checkTextRange, checkRanges, checkLink}
+use Rattle.link_draft.specs.Carried.{Each, ItemCarried, LocatorCarried, Carried, UriWithin, TextWithin, RangesWithin, Stands, HeadNarrow, EndNarrow}
+use Rattle.link_draft.proofs.Sizes.{range-length}
+use Rattle.link_draft.proofs.Rows.{range-passed, range-pass, each-passed, each-pass, each-take}
 
 -- ---- the URI
 
@@ -56,19 +55,19 @@ fits-uri t (uri.Present r) w f = field-pass uriLength (r .length) (rw (range-len
 
 -- ---- the locator
 
-place-here : (m : LinkLocator) → here (locatorOf m) ≡ locatorHere m
-place-here place.Absent = refl
-place-here (place.Present l) = refl
+locator-here : (m : LinkLocator) → here (locatorOf m) ≡ locatorHere m
+locator-here locator.Absent = refl
+locator-here (locator.Present l) = refl
 
-place-fits : (m : LinkLocator) → PlaceCarried m → checkPlace m ≡ Fine → checkRule m ≡ Fine → PlaceFits (locatorOf m)
-unfolding checkPlace checkRule
-place-fits place.Absent c e f = tt
-place-fits (place.Present l) c e f = record { narrow = fields-narrow l e; rule = windows-ruled l f; carried = c }
+locator-fits : (m : LinkLocator) → LocatorCarried m → checkLocatorFields m ≡ Fine → checkLocatorRule m ≡ Fine → LocatorFits (locatorOf m)
+unfolding checkLocatorFields checkLocatorRule
+locator-fits locator.Absent c e f = tt
+locator-fits (locator.Present l) c e f = record { narrow = fields-narrow l e; rule = windows-ruled l f; carried = c }
 
-fits-place : (m : LinkLocator) → PlaceFits (locatorOf m) → (checkPlace m ≡ Fine) × (checkRule m ≡ Fine)
-unfolding checkPlace checkRule
-fits-place place.Absent f = (refl, refl)
-fits-place (place.Present l) f = (narrow-fields l (f .narrow), ruled-windows l (f .rule))
+fits-locator : (m : LinkLocator) → LocatorFits (locatorOf m) → (checkLocatorFields m ≡ Fine) × (checkLocatorRule m ≡ Fine)
+unfolding checkLocatorFields checkLocatorRule
+fits-locator locator.Absent f = (refl, refl)
+fits-locator (locator.Present l) f = (narrow-fields l (f .narrow), ruled-windows l (f .rule))
 
 -- ---- the items
 
@@ -95,88 +94,87 @@ fit-items t (i ∷ is) w f =
     let r = i .«promotional_text» in
     fine-then (checkText i) (firstIn checkText is) (field-pass textLength (r .length) (rw (range-length t r (w .0)) at (f .0 .short))) (fit-items t is (w .1) (f .1))
 
--- ---- the record
+-- ---- the fields before the URI, and behind the items
 
-module _ (t : List ℕ) (k : LinkInfo) where
-  -- as many items as the count says, unless it is too large
-  pub items-length : length (map (itemOf t) (itemsOf k)) ≡ min (k .«number_items») (length (k .items))
-  items-length = length-map (itemsOf k) (itemOf t) ∙ length-take (k .«number_items») (k .items)
-
-  ranges-within : checkRanges (length t) k ≡ Fine → RangesWithin t k
-  unfolding checkRanges
-  ranges-within e =
-      let a = then-fine _ _ e in
-      let b = then-fine _ _ (a .1) in
-      record {
-        uri = uri-within t (k .«media_uri») (a .0);
-        texts = each-passed (checkTextRange (length t)) (λ i. range-passed t (i .«promotional_text»)) (itemsOf k) (b .0);
-        descriptors = range-passed t (k .descriptors) (b .1);
-      }
-
-  within-ranges : RangesWithin t k → checkRanges (length t) k ≡ Fine
-  unfolding checkRanges
-  within-ranges w =
-      fine-then _ _ (within-uri t (k .«media_uri») (w .uri))
-      (fine-then _ _ (each-pass (checkTextRange (length t)) (λ i. range-pass t (i .«promotional_text»)) (itemsOf k) (w .texts)) (range-pass t (k .descriptors) (w .descriptors)))
-
-  head-narrow : checkHead k ≡ Fine → HeadNarrow k
+module _ (f : LinkFields) where
+  head-narrow : checkHead f ≡ Fine → HeadNarrow f
   unfolding checkHead
   head-narrow e =
       let a = then-fine _ _ e in
       let b = then-fine _ _ (a .1) in
       let c = then-fine _ _ (b .1) in
       let d = then-fine _ _ (c .1) in
-      let f = then-fine _ _ (d .1) in
+      let g = then-fine _ _ (d .1) in
       record {
-        related = field-passed howRelated (k .«how_related») (a .0);
-        term = field-passed termId (k .«term_id») (b .0);
-        type = field-passed linkType (k .«link_type») (c .0);
-        reserved = field-passed linkTypeReserved (k .«reserved_link_type») (d .0);
-        group = field-passed groupId (k .«group_id») (f .0);
-        precedence = field-passed precedence (k .precedence) (f .1);
+        related = field-passed howRelated (f .«how_related») (a .0);
+        term = field-passed termId (f .«term_id») (b .0);
+        type = field-passed linkType (f .«link_type») (c .0);
+        reserved = field-passed linkTypeReserved (f .«reserved_link_type») (d .0);
+        group = field-passed groupId (f .«group_id») (g .0);
+        precedence = field-passed precedence (f .precedence) (g .1);
       }
 
-  narrow-head : HeadNarrow k → checkHead k ≡ Fine
+  narrow-head : HeadNarrow f → checkHead f ≡ Fine
   unfolding checkHead
   narrow-head n =
-      fine-then _ _ (field-pass howRelated (k .«how_related») (n .related))
-      (fine-then _ _ (field-pass termId (k .«term_id») (n .term))
-      (fine-then _ _ (field-pass linkType (k .«link_type») (n .type))
-      (fine-then _ _ (field-pass linkTypeReserved (k .«reserved_link_type») (n .reserved))
-      (fine-then _ _ (field-pass groupId (k .«group_id») (n .group)) (field-pass precedence (k .precedence) (n .precedence))))))
+      fine-then _ _ (field-pass howRelated (f .«how_related») (n .related))
+      (fine-then _ _ (field-pass termId (f .«term_id») (n .term))
+      (fine-then _ _ (field-pass linkType (f .«link_type») (n .type))
+      (fine-then _ _ (field-pass linkTypeReserved (f .«reserved_link_type») (n .reserved))
+      (fine-then _ _ (field-pass groupId (f .«group_id») (n .group)) (field-pass precedence (f .precedence) (n .precedence))))))
 
-  end-narrow : checkEnd k ≡ Fine → EndNarrow k
+  end-narrow : checkEnd f ≡ Fine → EndNarrow f
   unfolding checkEnd
   end-narrow e =
       let a = then-fine _ _ e in
       let b = then-fine _ _ (a .1) in
       record {
-        short = field-passed descriptorLength (k .descriptors .length) (a .0);
-        icon = field-passed iconId (k .«icon_id») (b .0);
-        beside = field-passed linkLengthReserved (k .«reserved_link_info_length») (b .1);
+        short = field-passed descriptorLength (f .descriptors .length) (a .0);
+        icon = field-passed iconId (f .«icon_id») (b .0);
+        beside = field-passed linkLengthReserved (f .«reserved_link_info_length») (b .1);
       }
 
-  narrow-end : EndNarrow k → checkEnd k ≡ Fine
+  narrow-end : EndNarrow f → checkEnd f ≡ Fine
   unfolding checkEnd
   narrow-end n =
-      fine-then _ _ (field-pass descriptorLength (k .descriptors .length) (n .short))
-      (fine-then _ _ (field-pass iconId (k .«icon_id») (n .icon)) (field-pass linkLengthReserved (k .«reserved_link_info_length») (n .beside)))
+      fine-then _ _ (field-pass descriptorLength (f .descriptors .length) (n .short))
+      (fine-then _ _ (field-pass iconId (f .«icon_id») (n .icon)) (field-pass linkLengthReserved (f .«reserved_link_info_length») (n .beside)))
 
-  -- ---- the rows of a record that passes, apart
+-- ---- the record
+
+module _ (t : List ℕ) (k : LinkInfo) where
+  ranges-within : checkRanges (length t) k ≡ Fine → RangesWithin t k
+  unfolding checkRanges
+  ranges-within e =
+      let a = then-fine _ _ e in
+      let b = then-fine _ _ (a .1) in
+      record {
+        uri = uri-within t (k .fields .«media_uri») (a .0);
+        texts = each-passed (checkTextRange (length t)) (λ i. range-passed t (i .«promotional_text»)) (itemsOf k) (b .0);
+        descriptors = range-passed t (k .fields .descriptors) (b .1);
+      }
+
+  within-ranges : RangesWithin t k → checkRanges (length t) k ≡ Fine
+  unfolding checkRanges
+  within-ranges w =
+      fine-then _ _ (within-uri t (k .fields .«media_uri») (w .uri))
+      (fine-then _ _ (each-pass (checkTextRange (length t)) (λ i. range-pass t (i .«promotional_text»)) (itemsOf k) (w .texts)) (range-pass t (k .fields .descriptors) (w .descriptors)))
+
+  -- the rows of a record that passes, apart
   pub record Passed : Type 0 where
-    pub uriHere : uriHere (k .«media_uri») ≡ uriDue (k .«link_type»)
-    pub locatorHere : locatorHere (k .«dvb_binary_locator») ≡ locatorDue (k .«link_type»)
-    pub head : HeadNarrow k
-    pub uri : checkUri (k .«media_uri») ≡ Fine
-    pub place : checkPlace (k .«dvb_binary_locator») ≡ Fine
-    pub reserved : k .«reserved_number_items» ≤ numberItemsReserved .widest
+    pub uriHere : uriHere (k .fields .«media_uri») ≡ uriDue (k .fields .«link_type»)
+    pub locatorHere : locatorHere (k .fields .«dvb_binary_locator») ≡ locatorDue (k .fields .«link_type»)
+    pub head : HeadNarrow (k .fields)
+    pub uri : checkUri (k .fields .«media_uri») ≡ Fine
+    pub locator : checkLocatorFields (k .fields .«dvb_binary_locator») ≡ Fine
+    pub reserved : k .fields .«reserved_number_items» ≤ numberItemsReserved .widest
     pub texts : firstIn checkText (itemsOf k) ≡ Fine
-    pub end : EndNarrow k
-    pub rule : checkRule (k .«dvb_binary_locator») ≡ Fine
+    pub end : EndNarrow (k .fields)
+    pub rule : checkLocatorRule (k .fields .«dvb_binary_locator») ≡ Fine
     pub stands : Stands t k
 
   pub passed : checkLink t k ≡ Fine → Passed
-  unfolding checkLink checkPresence checkFields checkItems
+  unfolding checkLink checkPresence checkFields checkCount
   passed e =
       let a = then-fine _ _ e in
       let p = then-fine _ _ (a .0) in
@@ -186,33 +184,32 @@ module _ (t : List ℕ) (k : LinkInfo) where
       let d = then-fine _ _ (c .1) in
       let f = then-fine _ _ (d .1) in
       let g = then-fine _ _ (f .1) in
-      let i = then-fine _ _ (g .0) in
-      let j = then-fine _ _ (i .1) in
+      let h = then-fine _ _ (g .0) in
+      let i = then-fine _ _ (g .1) in
       record {
         uriHere = agree-passed _ _ _ _ _ (p .0);
         locatorHere = agree-passed _ _ _ _ _ (p .1);
-        head = head-narrow (c .0);
+        head = head-narrow (k .fields) (c .0);
         uri = d .0;
-        place = f .0;
-        reserved = field-passed numberItemsReserved (k .«reserved_number_items») (j .0);
-        texts = j .1;
-        end = end-narrow (g .1);
+        locator = f .0;
+        reserved = field-passed numberItemsReserved (k .fields .«reserved_number_items») (h .1);
+        texts = i .0;
+        end = end-narrow (k .fields) (i .1);
         rule = r .0;
-        stands = record { count = field-passed numberItems (k .«number_items») (i .0); ranges = ranges-within (r .1) };
+        stands = record { count = field-passed numberItems (k .fields .«number_items») (h .0); ranges = ranges-within (r .1) };
       }
 
   pass : Passed → checkLink t k ≡ Fine
-  unfolding checkLink checkPresence checkFields checkItems
+  unfolding checkLink checkPresence checkFields checkCount
   pass p =
       fine-then _ _ (fine-then _ _ (agree-pass _ _ _ _ _ (p .uriHere)) (agree-pass _ _ _ _ _ (p .locatorHere)))
       (fine-then _ _
-      (fine-then _ _ (narrow-head (p .head))
+      (fine-then _ _ (narrow-head (k .fields) (p .head))
       (fine-then _ _ (p .uri)
-      (fine-then _ _ (p .place)
+      (fine-then _ _ (p .locator)
       (fine-then _ _
-      (fine-then _ _ (field-pass numberItems (k .«number_items») (p .stands .count))
-      (fine-then _ _ (field-pass numberItemsReserved (k .«reserved_number_items») (p .reserved)) (p .texts)))
-      (narrow-end (p .end))))))
+      (fine-then _ _ (field-pass numberItems (k .fields .«number_items») (p .stands .count)) (field-pass numberItemsReserved (k .fields .«reserved_number_items») (p .reserved)))
+      (fine-then _ _ (p .texts) (narrow-end (k .fields) (p .end)))))))
       (fine-then _ _ (p .rule) (within-ranges (p .stands .ranges))))
 
   -- ---- exactly
@@ -222,6 +219,8 @@ module _ (t : List ℕ) (k : LinkInfo) where
   check-fits b c e =
       let p = passed e in
       let w = p .stands .ranges in
+      let f = k .fields in
+      let n : length (map (itemOf t) (itemsOf k)) ≡ min (f .«number_items») (length (k .items)) = length-map (itemsOf k) (itemOf t) ∙ length-take (f .«number_items») (k .items) in
       record {
         lengthReserved = p .end .beside;
         linkType = p .head .type;
@@ -230,72 +229,36 @@ module _ (t : List ℕ) (k : LinkInfo) where
         termId = p .head .term;
         groupId = p .head .group;
         precedence = p .head .precedence;
-        uriHere = uri-here t (k .«media_uri») ∙ p .uriHere;
-        uri = uri-fits t (k .«media_uri») b (w .uri) (p .uri);
-        locatorHere = place-here (k .«dvb_binary_locator») ∙ p .locatorHere;
-        locator = place-fits (k .«dvb_binary_locator») (c .locator) (p .place) (p .rule);
+        uriHere = uri-here t (f .«media_uri») ∙ p .uriHere;
+        uri = uri-fits t (f .«media_uri») b (w .uri) (p .uri);
+        locatorHere = locator-here (f .«dvb_binary_locator») ∙ p .locatorHere;
+        locator = locator-fits (f .«dvb_binary_locator») (c .locator) (p .locator) (p .rule);
         itemsReserved = p .reserved;
-        count = rw items-length (omega (arith, c .array));
-        items = items-fit t b (itemsOf k) (each-take ItemCarried (k .«number_items») (k .items) (c .items)) (w .texts) (p .texts);
+        count = rw n (omega (arith, p .stands .count));
+        items = items-fit t b (itemsOf k) (each-take ItemCarried (f .«number_items») (k .items) (c .items)) (w .texts) (p .texts);
         iconId = p .end .icon;
-        short = rw (range-length t (k .descriptors) (w .descriptors)) (p .end .short);
-        descriptors = bytes-part t (k .descriptors .start) (k .descriptors .length) b;
+        short = rw (range-length t (f .descriptors) (w .descriptors)) (p .end .short);
+        descriptors = bytes-part t (f .descriptors .start) (f .descriptors .length) b;
       }
 
   pub fits-check : LinkFits (linkOf t k) → Stands t k → checkLink t k ≡ Fine
   unfolding linkOf
-  fits-check f s =
+  fits-check g s =
       let w = s .ranges in
-      let m = fits-place (k .«dvb_binary_locator») (f .locator) in
+      let f = k .fields in
+      let m = fits-locator (f .«dvb_binary_locator») (g .locator) in
       pass record {
-        uriHere = sym (uri-here t (k .«media_uri»)) ∙ f .uriHere;
-        locatorHere = sym (place-here (k .«dvb_binary_locator»)) ∙ f .locatorHere;
-        head = record { related = f .howRelated; term = f .termId; type = f .linkType; reserved = f .typeReserved; group = f .groupId; precedence = f .precedence };
-        uri = fits-uri t (k .«media_uri») (w .uri) (f .uri);
-        place = m .0;
-        reserved = f .itemsReserved;
-        texts = fit-items t (itemsOf k) (w .texts) (f .items);
-        end = record { short = rw (range-length t (k .descriptors) (w .descriptors)) at (f .short); icon = f .iconId; beside = f .lengthReserved };
+        uriHere = sym (uri-here t (f .«media_uri»)) ∙ g .uriHere;
+        locatorHere = sym (locator-here (f .«dvb_binary_locator»)) ∙ g .locatorHere;
+        head = record { related = g .howRelated; term = g .termId; type = g .linkType; reserved = g .typeReserved; group = g .groupId; precedence = g .precedence };
+        uri = fits-uri t (f .«media_uri») (w .uri) (g .uri);
+        locator = m .0;
+        reserved = g .itemsReserved;
+        texts = fit-items t (itemsOf k) (w .texts) (g .items);
+        end = record { short = rw (range-length t (f .descriptors) (w .descriptors)) at (g .short); icon = g .iconId; beside = g .lengthReserved };
         rule = m .1;
         stands = s;
       }
 
   pub check-exact : Bytes t → Carried k → (checkLink t k ≡ Fine) ↔ (LinkFits (linkOf t k) × Stands t k)
   check-exact b c = ((λ e. (check-fits b c e, passed e .stands)), (λ f. fits-check (f .0) (f .1)))
-
--- ---- how long the body of a record that passes can be
-
-items-short : (is : List LinkItem) → firstIn checkText is ≡ Fine → itemsSize is ≤ length is * (itemHead + textLength .widest)
-unfolding firstIn itemsSize
-items-short [] e = omega arith
-items-short (i ∷ is) e =
-    let two = then-fine (checkText i) (firstIn checkText is) e in
-    omega (arith, field-passed textLength (i .«promotional_text» .length) (two .0), items-short is (two .1))
-
-uri-short : (u : MediaUri) → checkUri u ≡ Fine → uriSize u ≤ uriHead + uriLength .widest
-unfolding checkUri uriSize
-uri-short uri.Absent e = omega arith
-uri-short (uri.Present r) e = omega (arith, field-passed uriLength (r .length) e)
-
-place-short : (m : LinkLocator) → placeSize m ≤ 16
-unfolding placeSize
-place-short place.Absent = omega arith
-place-short (place.Present l) = locator-short l
-
--- its length is a number of 16 bits, so that sums with lengths of a section stay far below a word
-pub checked-short : (t : List ℕ) (k : LinkInfo) → checkLink t k ≡ Fine → linkLength k < 65536
-unfolding linkLength
-checked-short t k e =
-    let p = passed t k e in
-    let n : length (itemsOf k) ≤ 63 = rw (length-take (k .«number_items») (k .items)) (omega (arith, p .stands .count)) in
-    omega (arith, uri-short (k .«media_uri») (p .uri), place-short (k .«dvb_binary_locator»), items-short (itemsOf k) (p .texts), p .end .short)
-
--- ---- the accident that this is for: a link of type 1 without locator is never written
-
-pub type1-needs-locator : (t : List ℕ) (k : LinkInfo) → k .«link_type» ≡ 1 → k .«dvb_binary_locator» ≡ place.Absent → checkLink t k ≡ bad 23 1 0
-unfolding checkLink checkPresence refuse xor _▷_
-type1-needs-locator t k a b = rows (k .«media_uri») refl
-  where
-    rows : (u : MediaUri) → k .«media_uri» ≡ u → checkLink t k ≡ bad 23 1 0
-    rows uri.Absent e = rw (a, b, e)
-    rows (uri.Present r) e = rw (a, b, e)

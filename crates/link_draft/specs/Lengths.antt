@@ -3,28 +3,16 @@
 use Prim.Native.Nat.{ℕ, _+_}
 use mathlib.Core.List.{List, [], _∷_}
 use Rattle.locator.specs.Syntax.{locatorLength}
+use Rattle.link.specs.Syntax.{headLength, uriHead, countLength, itemHead}
 use Rattle.link.specs.Records.{itemsOf}
 use Rattle.link.specs.declared.LinkItem.{LinkItem}
 use Rattle.link.specs.declared.MediaUri.{MediaUri}
 use Rattle.link.specs.declared.MediaUri.the-variants as uri
 use Rattle.link.specs.declared.LinkLocator.{LinkLocator}
-use Rattle.link.specs.declared.LinkLocator.the-variants as place
+use Rattle.link.specs.declared.LinkLocator.the-variants as locator
 use Rattle.link.specs.declared.LinkInfo.{LinkInfo}
 
--- link_type to precedence; media_uri_length; number_items with its reserved bits; an item's language and length; the
--- default icon flag, icon_id and the descriptors' length
-abbrev pub headLength : ℕ
-headLength = 4
-
-abbrev pub uriHead : ℕ
-uriHead = 1
-
-abbrev pub countLength : ℕ
-countLength = 1
-
-abbrev pub itemHead : ℕ
-itemHead = 4
-
+-- the default icon flag, icon_id and the descriptors' length
 abbrev pub tailHead : ℕ
 tailHead = 2
 
@@ -32,9 +20,9 @@ unfoldable pub uriSize : MediaUri → ℕ
 uriSize uri.Absent = 0
 uriSize (uri.Present r) = uriHead + r .length
 
-unfoldable pub placeSize : LinkLocator → ℕ
-placeSize place.Absent = 0
-placeSize (place.Present l) = locatorLength l
+unfoldable pub locatorSize : LinkLocator → ℕ
+locatorSize locator.Absent = 0
+locatorSize (locator.Present l) = locatorLength l
 
 unfoldable pub itemsSize : List LinkItem → ℕ
 itemsSize [] = 0
@@ -42,4 +30,5 @@ itemsSize (i ∷ is) = itemHead + i .«promotional_text» .length + itemsSize is
 
 unfoldable pub linkLength : LinkInfo → ℕ
 linkLength k =
-    headLength + uriSize (k .«media_uri») + placeSize (k .«dvb_binary_locator») + countLength + itemsSize (itemsOf k) + tailHead + k .descriptors .length
+    let f = k .fields in
+    headLength + uriSize (f .«media_uri») + locatorSize (f .«dvb_binary_locator») + countLength + itemsSize (itemsOf k) + (tailHead + f .descriptors .length)

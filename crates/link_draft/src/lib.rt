@@ -1,4 +1,4 @@
-// A link that is to be written: the length of its body, what its writing answers, and what its checks share.
+// A link that is to be written: what its checks answer, and what checker and writer share.
 ghost use mathlib.Core.Path.{_≡_};
 ghost use Prim.Native.Nat.{min, _≤_};
 ghost use Rattle.field.specs.Fields.{numberItems};
@@ -8,8 +8,11 @@ use link::Range;
 use wire::verdict::Refusal;
 use wire::verdict::Verdict;
 
-pub mod lengths;
-pub mod writing;
+// The verdict of the checks, and the length of the body that the record says, whatever the verdict.
+pub struct LinkChecked {
+    pub verdict: Verdict,
+    pub length: usize,
+}
 
 // How many items a record has whose count may be too large: a record holds no more than its array. The bound follows from
 // the first fact; it is said besides because a loop over the items needs it at each index.

@@ -2,4 +2,5 @@
 pub mod Laws
 pub mod StepValue
 pub mod Written
+pub mod Listed
 pub mod Unique

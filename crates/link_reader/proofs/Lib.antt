@@ -1,3 +1,7 @@
--- The laws of those stages, and that each public contract leaves one outcome.
+-- The laws of those answers, and that each public contract leaves one outcome.
+pub mod Places
 pub mod Stages
+pub mod Numbered
+pub mod Fields
+pub mod Filled
 pub mod Unique

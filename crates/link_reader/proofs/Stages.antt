@@ -1,181 +1,256 @@
--- What the stages of the reading answer, case by case, over plain lists: the code's returns cite these.
+-- What the private stages answer, case by case, over plain lists: the code's returns cite these.
 -- Assumes nothing.
-use mathlib.Core.Path.{_≡_, refl, sym, ap, _∙_}
+use mathlib.Core.Path.{_≡_, refl, sym, ap, ap₂, _∙_}
 use Prim.Native.Nat.{ℕ, _+_, _-_, _≤_, _<_}
 use native.Mathlib.Omega.{arith}
-use mathlib.Core.Bool.{true, false}
+use mathlib.Core.Bool.{Bool, true, false, not}
 use mathlib.Core.List.{List}
-use lib.ListN.{length, getD, take, drop}
-use borrow.Author.Tests.{lt-ltb, le-ltb}
-use Rattle.wire.specs.Lengths.{lastVerdict}
-use Rattle.wire.specs.Verdict.{bad, refuse, _▷_}
+use lib.ListN.{length, getD, take, drop, length-drop}
+use borrow.Author.Tests.{lt-ltb, le-ltb, not-true, not-false}
+use Rattle.field.specs.Fields.{low, numberItems}
+use Rattle.wire.specs.Choice.{pick}
+use Rattle.wire.specs.Lists.{Bytes}
+use Rattle.wire.specs.Lengths.{lengthField, lastRows, lastVerdict}
+use Rattle.wire.specs.declared.lengths.LengthField.{LengthField}
+use Rattle.wire.proofs.Blocks.{last-cut, last-left}
+use Rattle.wire.specs.Refusals.{bodyTooShort, uriLengthCut, uriCut, noLocator, itemCountCut, itemCut, textCut, iconCut, descriptorsTooLong, linkSlack}
+use Rattle.wire.specs.Verdict.{bad, refuse, reached, _▷_}
 use Rattle.wire.specs.declared.verdict.Refusal.{Refusal}
 use Rattle.wire.specs.declared.verdict.Verdict.{Verdict}
 use Rattle.wire.specs.declared.verdict.Verdict.the-variants.{Fine, Refused}
-use Rattle.wire.proofs.Parts.{rest-part}
-use Rattle.wire.proofs.Verdicts.{go-on, refused-then, pass-ltb}
-use Rattle.locator.specs.Reading.{readLocator}
+use Rattle.wire.specs.declared.verdict.Reached.{Reached}
+use Rattle.wire.specs.declared.verdict.Reached.the-variants as reach
+use Rattle.wire.proofs.Lists.{rest-part}
+use Rattle.wire.proofs.Verdicts.{go-on, refused-then, then-fine, then-assoc, fine-then, pass-ltb, passed-ltb, reached-at, reached-refused, at-reached, refused-reached}
+use Rattle.locator.specs.Reading.{locatorSize, readLocator}
 use Rattle.locator.specs.declared.DvbBinaryLocator.{DvbBinaryLocator}
 use Rattle.locator.specs.declared.reading.LocatorRead.{LocatorRead}
 use Rattle.locator.specs.declared.reading.LocatorRead.the-variants as read
-use Rattle.link.specs.Syntax.{uriDue, locatorDue}
-use Rattle.link.specs.Reading.{typeAt, uriEnd, uriVerdict, locatorIn, placeVerdict, countPlace, countVerdict, itemCount, itemsVerdict, tailPlace, frontVerdict, restVerdict}
-use Rattle.link.specs.Records.{locatorInfo}
-use Rattle.link_reader.specs.Steps.{ItemsFilled, stepTo, placed, fronted, placesFound}
-use Rattle.link.specs.declared.LinkLocator.{LinkLocator}
-use Rattle.link.specs.declared.LinkLocator.the-variants as place
-use Rattle.link_reader.specs.declared.Step.the-variants as step
-use Rattle.link_reader.specs.declared.Placed.the-variants as placing
-use Rattle.link_reader.specs.declared.Front.the-variants as front
+use Rattle.locator.specs.declared.reading.LocatorSize.{LocatorSize}
+use Rattle.locator.specs.declared.reading.LocatorSize.the-variants as size
+use Rattle.locator.proofs.Answers.{size-had, size-read, size-refused}
+use Rattle.link.specs.Syntax.{headLength, countLength, itemHead, uriDue, locatorDue}
+use Rattle.link.specs.Reading.{typeAt, uriStart, uriEnd, uriVerdict, locatorIn, locatorRows, countPlace, itemsPlace, countVerdict, itemCount, itemEnd, itemPlace, itemVerdict, itemsVerdict, tailPlace, frontVerdict, restVerdict, bodyVerdict}
+use Rattle.link.specs.Records.{uriInfo, locatorInfo}
+use Rattle.link.proofs.Bounds.{uri-within, body-known, front-known, rest-known, uri-far, count-far, tail-far}
+use Rattle.link.proofs.Turns.{items-stop, items-on, place-on}
+use Rattle.link_reader.specs.Stages.{typeIn, uriRows, locatorRow, locatorEnd, tailRows, restRows, Laid, uriTo}
+use Rattle.link_reader.proofs.Places.{Found}
 use Rattle.link_reader.specs.declared.BodyPlaces.the-variants as places
-use Rattle.link_reader.specs.declared.ItemsRead.{ItemsRead}
+use Rattle.link.specs.declared.LinkLocator.the-variants as locator
+use Rattle.link.specs.declared.MediaUri.the-variants as uri
 
--- ---- a step, taken apart
+-- what the answer of a stage says
+pub came-at : (v : Verdict) (p q : ℕ) (a : Reached) → a ≡ reached v p → a ≡ reach.At q → (v ≡ Fine) × (q ≡ p)
+came-at v p q a e h = let g = reached-at v p q (sym e ∙ h) in (g .0, sym (g .1))
 
-pub step-at : (v : Verdict) (p q : ℕ) → stepTo v p ≡ step.At q → (v ≡ Fine) × (p ≡ q)
-unfolding stepTo
-step-at Fine p q e = (refl, cc)
-step-at (Refused r) p q e = let z : _≡_ {A = ℕ} 0 1 = cc in absurd (omega arith)
+pub came-refused : (v : Verdict) (p : ℕ) (a : Reached) (r : Refusal) → a ≡ reached v p → a ≡ reach.Refused r → v ≡ Refused r
+came-refused v p a r e h = reached-refused v p r (sym e ∙ h)
 
-pub step-stop : (v : Verdict) (p : ℕ) (r : Refusal) → stepTo v p ≡ step.Stop r → v ≡ Refused r
-unfolding stepTo
-step-stop Fine p r e = let z : _≡_ {A = ℕ} 0 1 = cc in absurd (omega arith)
-step-stop (Refused q) p r e = cc
+-- what the code asked of the link type, answered of the body
+pub due : (f : ℕ → Bool) (xs : List ℕ) (t : ℕ) (b : Bool) → t ≡ typeAt xs → b ≡ f t → not b ≡ false → f (typeAt xs) ≡ true
+due f xs t b e q h = ap f (sym e) ∙ sym q ∙ not-false b h
 
-pub placed-at : (v : Verdict) (p q : ℕ) (l m : LinkLocator) → placed v p l ≡ placing.At q m → (v ≡ Fine) × ((p ≡ q) × (l ≡ m))
-unfolding placed
-placed-at Fine p q l m e = (refl, ((cc), (cc)))
-placed-at (Refused r) p q l m e = let z : _≡_ {A = ℕ} 0 1 = cc in absurd (omega arith)
-
-pub placed-stop : (v : Verdict) (p : ℕ) (l : LinkLocator) (r : Refusal) → placed v p l ≡ placing.Stop r → v ≡ Refused r
-unfolding placed
-placed-stop Fine p l r e = let z : _≡_ {A = ℕ} 0 1 = cc in absurd (omega arith)
-placed-stop (Refused q) p l r e = cc
-
-pub front-at : (v : Verdict) (u u′ p p′ : ℕ) (l l′ : LinkLocator) → fronted v u l p ≡ front.At u′ l′ p′ → (v ≡ Fine) × ((u ≡ u′) × ((l ≡ l′) × (p ≡ p′)))
-unfolding fronted
-front-at Fine u u′ p p′ l l′ e = (refl, ((cc), ((cc), (cc))))
-front-at (Refused r) u u′ p p′ l l′ e = let z : _≡_ {A = ℕ} 0 1 = cc in absurd (omega arith)
-
-pub front-stop : (v : Verdict) (u p : ℕ) (l : LinkLocator) (r : Refusal) → fronted v u l p ≡ front.Stop r → v ≡ Refused r
-unfolding fronted
-front-stop Fine u p l r e = let z : _≡_ {A = ℕ} 0 1 = cc in absurd (omega arith)
-front-stop (Refused q) u p l r e = cc
-
-pub places-at : (v : Verdict) (u u′ p p′ t t′ : ℕ) → placesFound v u p t ≡ places.At u′ p′ t′ → (v ≡ Fine) × ((u ≡ u′) × ((p ≡ p′) × (t ≡ t′)))
-unfolding placesFound
-places-at Fine u u′ p p′ t t′ e = (refl, ((cc), ((cc), (cc))))
-places-at (Refused r) u u′ p p′ t t′ e = let z : _≡_ {A = ℕ} 0 1 = cc in absurd (omega arith)
-
-pub places-refused : (v : Verdict) (u p t : ℕ) (r : Refusal) → placesFound v u p t ≡ places.Refused r → v ≡ Refused r
-unfolding placesFound
-places-refused Fine u p t r e = let z : _≡_ {A = ℕ} 0 1 = cc in absurd (omega arith)
-places-refused (Refused q) u p t r e = cc
-
-pub found-at : (v : Verdict) (u u′ p p′ t t′ : ℕ) → v ≡ Fine → u ≡ u′ → p ≡ p′ → t ≡ t′ → places.At u′ p′ t′ ≡ placesFound v u p t
-unfolding placesFound
-found-at v u u′ p p′ t t′ e a b c = rw (e, a, b, c)
-
-pub found-refused : (v : Verdict) (u p t : ℕ) (r : Refusal) → v ≡ Refused r → places.Refused r ≡ placesFound v u p t
-unfolding placesFound
-found-refused v u p t r e = rw e
-
--- ---- the URI
+pub not-due : (f : ℕ → Bool) (xs : List ℕ) (t : ℕ) (b : Bool) → t ≡ typeAt xs → b ≡ f t → not b ≡ true → f (typeAt xs) ≡ false
+not-due f xs t b e q h = ap f (sym e) ∙ sym q ∙ not-true b h
 
 module _ (xs : List ℕ) where
-  pub uri-none : uriDue (typeAt xs) ≡ false → step.At 4 ≡ stepTo (uriVerdict xs) (uriEnd xs)
-  unfolding uriVerdict stepTo
-  uri-none e = rw e
+  -- ---- the first four bytes and the URI
 
-  pub uri-7 : uriDue (typeAt xs) ≡ true → length xs < 5 → step.Stop (record { number = 7; first = 5; second = length xs }) ≡ stepTo (uriVerdict xs) (uriEnd xs)
-  unfolding uriVerdict stepTo refuse _▷_
-  uri-7 e h = rw (e, lt-ltb _ _ h)
+  pub uri-6 : length xs < headLength → reach.Refused (record { number = bodyTooShort; first = headLength; second = length xs }) ≡ reached (uriRows xs) (uriEnd xs)
+  unfolding uriRows refuse _▷_ reached
+  uri-6 h = rw (lt-ltb _ _ h)
 
-  pub uri-8 : uriDue (typeAt xs) ≡ true → 5 ≤ length xs → length xs < 5 + getD xs 4 0
-      → step.Stop (record { number = 8; first = 5 + getD xs 4 0; second = length xs }) ≡ stepTo (uriVerdict xs) (uriEnd xs)
-  unfolding uriVerdict stepTo refuse _▷_
-  uri-8 e h k = rw (e, le-ltb _ _ h, lt-ltb _ _ k)
+  pub uri-none : headLength ≤ length xs → uriDue (typeAt xs) ≡ false → reach.At headLength ≡ reached (uriRows xs) (uriEnd xs)
+  unfolding uriRows uriVerdict refuse _▷_ reached
+  uri-none h e = rw (le-ltb _ _ h, e)
 
-  pub uri-past : uriDue (typeAt xs) ≡ true → 5 ≤ length xs → 5 + getD xs 4 0 ≤ length xs → step.At (5 + getD xs 4 0) ≡ stepTo (uriVerdict xs) (uriEnd xs)
-  unfolding uriVerdict stepTo refuse _▷_
-  uri-past e h k = rw (e, le-ltb _ _ h, le-ltb _ _ k)
+  pub uri-7 : headLength ≤ length xs → uriDue (typeAt xs) ≡ true → length xs < uriStart
+      → reach.Refused (record { number = uriLengthCut; first = uriStart; second = length xs }) ≡ reached (uriRows xs) (uriEnd xs)
+  unfolding uriRows uriVerdict refuse _▷_ reached
+  uri-7 h e k = rw (le-ltb _ _ h, e, lt-ltb _ _ k)
+
+  pub uri-8 : uriDue (typeAt xs) ≡ true → uriStart ≤ length xs → length xs < uriStart + getD xs headLength 0
+      → reach.Refused (record { number = uriCut; first = uriStart + getD xs headLength 0; second = length xs }) ≡ reached (uriRows xs) (uriEnd xs)
+  unfolding uriRows uriVerdict refuse _▷_ reached
+  uri-8 e h k = let four : headLength ≤ length xs = omega arith in rw (le-ltb _ _ four, e, le-ltb _ _ h, lt-ltb _ _ k)
+
+  pub uri-past : uriDue (typeAt xs) ≡ true → uriStart ≤ length xs → uriStart + getD xs headLength 0 ≤ length xs
+      → reach.At (uriStart + getD xs headLength 0) ≡ reached (uriRows xs) (uriEnd xs)
+  unfolding uriRows uriVerdict refuse _▷_ reached
+  uri-past e h k = let four : headLength ≤ length xs = omega arith in rw (le-ltb _ _ four, e, le-ltb _ _ h, le-ltb _ _ k)
+
+  pub uri-known : uriRows xs ≡ Fine → (headLength ≤ length xs) × (uriEnd xs ≤ length xs)
+  unfolding uriRows
+  uri-known v =
+      let two = then-fine _ (uriVerdict xs) v in
+      let four : headLength ≤ length xs = passed-ltb (length xs) headLength _ _ _ (two .0) in
+      (four, uri-within xs four (two .1))
 
   -- ---- the locator
 
-  pub place-none : locatorDue (typeAt xs) ≡ false → placing.At (uriEnd xs) place.Absent ≡ placed (placeVerdict xs) (countPlace xs) (locatorInfo xs)
-  unfolding placeVerdict placed
+  module _ (p : ℕ) (a : LocatorSize) (e : a ≡ locatorSize (take (length xs - p) (drop p xs))) where
+    taken : (b : LocatorSize) → a ≡ b → locatorSize (drop p xs) ≡ b
+    taken b q = ap locatorSize (sym (rest-part xs p)) ∙ sym e ∙ q
+
+    pub locator-past : (n : ℕ) → a ≡ size.Used n → reach.At (p + n) ≡ reached (locatorRow xs p) (locatorEnd xs p)
+    unfolding locatorRow locatorEnd reached
+    locator-past n q = rw (size-read (drop p xs) n (taken _ q))
+
+    pub locator-10 : (r : Refusal) → a ≡ size.Refused r → reach.Refused r ≡ reached (locatorRow xs p) (locatorEnd xs p)
+    unfolding locatorRow reached
+    locator-10 r q = rw (size-refused (drop p xs) r (taken _ q))
+
+    pub locator-within : (n : ℕ) → p ≤ length xs → a ≡ size.Used n → p + n ≤ length xs
+    locator-within n h q = let s = size-had (drop p xs) n (taken _ q) in omega (arith, s .used, s .there, length-drop p xs)
+
+  pub place-none : locatorDue (typeAt xs) ≡ false → reach.At (uriEnd xs) ≡ reached (locatorRows xs) (countPlace xs)
+  unfolding locatorRows reached
   place-none e = rw e
 
   pub place-9 : locatorDue (typeAt xs) ≡ true → length xs < uriEnd xs + 1
-      → placing.Stop (record { number = 9; first = uriEnd xs + 1; second = length xs }) ≡ placed (placeVerdict xs) (countPlace xs) (locatorInfo xs)
-  unfolding placeVerdict placed refuse _▷_
+      → reach.Refused (record { number = noLocator; first = uriEnd xs + 1; second = length xs }) ≡ reached (locatorRows xs) (countPlace xs)
+  unfolding locatorRows refuse _▷_ reached
   place-9 e h = rw (e, lt-ltb _ _ h)
 
-  pub place-10 : (r : Refusal) → locatorDue (typeAt xs) ≡ true → uriEnd xs + 1 ≤ length xs → locatorIn xs ≡ read.Refused r
-      → placing.Stop r ≡ placed (placeVerdict xs) (countPlace xs) (locatorInfo xs)
-  unfolding placeVerdict placed refuse _▷_
-  place-10 r e h q = rw (e, le-ltb _ _ h, q)
+  pub place-past : locatorDue (typeAt xs) ≡ true → uriEnd xs + 1 ≤ length xs
+      → reached (locatorRow xs (uriEnd xs)) (locatorEnd xs (uriEnd xs)) ≡ reached (locatorRows xs) (countPlace xs)
+  unfolding locatorRow locatorEnd locatorRows refuse _▷_
+  place-past e h = rw (e, le-ltb _ _ h)
 
-  pub place-past : (l : DvbBinaryLocator) (n : ℕ) → locatorDue (typeAt xs) ≡ true → uriEnd xs + 1 ≤ length xs → locatorIn xs ≡ read.Got l n
-      → placing.At (uriEnd xs + n) (place.Present l) ≡ placed (placeVerdict xs) (countPlace xs) (locatorInfo xs)
-  unfolding placeVerdict placed refuse _▷_
-  place-past l n e h q = rw (e, le-ltb _ _ h, q)
+  -- ---- an item, and a run of them
 
-  -- what is read from the part behind the URI
-  pub place-said : (p : ℕ) (r a : LocatorRead) → p ≡ uriEnd xs → r ≡ readLocator (take (length xs - p) (drop p xs)) → r ≡ a → locatorIn xs ≡ a
-  place-said p r a e q z = ap (λ k. readLocator (drop k xs)) (sym e) ∙ ap readLocator (sym (rest-part xs p)) ∙ sym q ∙ z
+  pub item-12 : (p : ℕ) → length xs < p + itemHead
+      → reach.Refused (record { number = itemCut; first = p + itemHead; second = length xs }) ≡ reached (itemVerdict xs p) (itemEnd xs p)
+  unfolding itemVerdict refuse _▷_ reached
+  item-12 p h = rw (lt-ltb _ _ h)
 
-  -- ---- the number of items, and all that stands before them
+  pub item-13 : (p : ℕ) → p + itemHead ≤ length xs → length xs < itemEnd xs p
+      → reach.Refused (record { number = textCut; first = itemEnd xs p; second = length xs }) ≡ reached (itemVerdict xs p) (itemEnd xs p)
+  unfolding itemVerdict refuse _▷_ reached
+  item-13 p h k = rw (le-ltb _ _ h, lt-ltb _ _ k)
 
-  pub count-11 : placeVerdict xs ≡ Fine → length xs < countPlace xs + 1
-      → front.Stop (record { number = 11; first = countPlace xs + 1; second = length xs })
-      ≡ fronted (placeVerdict xs ▷ countVerdict xs) (uriEnd xs) (locatorInfo xs) (countPlace xs)
-  unfolding countVerdict fronted refuse
-  count-11 v h = rw (go-on (placeVerdict xs) (countVerdict xs) v, lt-ltb _ _ h)
+  pub item-past : (p : ℕ) → p + itemHead ≤ length xs → itemEnd xs p ≤ length xs → reach.At (itemEnd xs p) ≡ reached (itemVerdict xs p) (itemEnd xs p)
+  unfolding itemVerdict refuse _▷_ reached
+  item-past p h k = rw (le-ltb _ _ h, le-ltb _ _ k)
 
-  pub count-past : placeVerdict xs ≡ Fine → countPlace xs + 1 ≤ length xs
-      → front.At (uriEnd xs) (locatorInfo xs) (countPlace xs) ≡ fronted (placeVerdict xs ▷ countVerdict xs) (uriEnd xs) (locatorInfo xs) (countPlace xs)
-  unfolding countVerdict fronted refuse
-  count-past v h = rw (go-on (placeVerdict xs) (countVerdict xs) v, le-ltb _ _ h)
+  pub turn-on : (k p : ℕ) → 0 < k → itemVerdict xs p ≡ Fine
+      → reached (itemsVerdict (k - 1) xs (itemEnd xs p)) (itemPlace (k - 1) xs (itemEnd xs p)) ≡ reached (itemsVerdict k xs p) (itemPlace k xs p)
+  turn-on k p h v = sym (ap₂ reached (items-on k xs p h v) (place-on k xs p h))
 
-  pub count-stop : (r : Refusal) → placeVerdict xs ≡ Refused r
-      → front.Stop r ≡ fronted (placeVerdict xs ▷ countVerdict xs) (uriEnd xs) (locatorInfo xs) (countPlace xs)
-  unfolding fronted
-  count-stop r v = rw (refused-then (placeVerdict xs) (countVerdict xs) r v)
+  -- ---- what a body ends with
 
-  pub front-6 : length xs < 4
-      → front.Stop (record { number = 6; first = 4; second = length xs }) ≡ fronted (frontVerdict xs) (uriEnd xs) (locatorInfo xs) (countPlace xs)
-  unfolding frontVerdict fronted refuse _▷_
-  front-6 h = rw (lt-ltb _ _ h)
+  module _ (p : ℕ) where
+    pub tail-14 : length xs < p + 2 → reach.Refused (record { number = iconCut; first = p + 2; second = length xs }) ≡ reached (tailRows xs p) p
+    unfolding tailRows
+    tail-14 h = refused-reached _ _ _ (last-cut iconCut descriptorsTooLong linkSlack xs (length xs) p h)
 
-  pub front-uri : (r : Refusal) → 4 ≤ length xs → uriVerdict xs ≡ Refused r → front.Stop r ≡ fronted (frontVerdict xs) (uriEnd xs) (locatorInfo xs) (countPlace xs)
-  unfolding frontVerdict fronted
-  front-uri r h v = rw (go-on _ _ (pass-ltb (length xs) 4 6 4 (length xs) h), refused-then (uriVerdict xs) _ r v)
+    module _ (h : p + 2 ≤ length xs) (f : LengthField) (v : Verdict) (e : f ≡ lengthField (getD xs p 0) (getD xs (p + 1) 0)) (w : v ≡ lastRows descriptorsTooLong linkSlack (f .length) (length xs - (p + 2))) where
+      ends : tailRows xs p ≡ v
+      unfolding tailRows
+      ends = last-left iconCut descriptorsTooLong xs (length xs) p h linkSlack ∙ sym (rw e at w)
 
--- ---- the rest of a body
+      pub tail-refused : (r : Refusal) → v ≡ Refused r → reach.Refused r ≡ reached (tailRows xs p) p
+      tail-refused r q = refused-reached _ _ _ (ends ∙ q)
 
-module _ (xs : List ℕ) where
-  pub rest-stop : (r : Refusal) → itemsVerdict (itemCount xs) xs (countPlace xs + 1) ≡ Refused r → step.Stop r ≡ stepTo (restVerdict xs) (tailPlace xs)
-  unfolding restVerdict stepTo
-  rest-stop r v = rw (refused-then _ (lastVerdict 14 15 16 xs (length xs) (tailPlace xs)) r v)
+      pub tail-past : v ≡ Fine → reach.At p ≡ reached (tailRows xs p) p
+      tail-past q = at-reached _ _ _ (ends ∙ q) refl
 
-  pub rest-tail : (r : Refusal) → itemsVerdict (itemCount xs) xs (countPlace xs + 1) ≡ Fine → lastVerdict 14 15 16 xs (length xs) (tailPlace xs) ≡ Refused r
-      → step.Stop r ≡ stepTo (restVerdict xs) (tailPlace xs)
-  unfolding restVerdict stepTo
-  rest-tail r v w = rw (go-on _ (lastVerdict 14 15 16 xs (length xs) (tailPlace xs)) v, w)
+  -- ---- the rest of a body
 
-  pub rest-past : itemsVerdict (itemCount xs) xs (countPlace xs + 1) ≡ Fine → lastVerdict 14 15 16 xs (length xs) (tailPlace xs) ≡ Fine
-      → step.At (tailPlace xs) ≡ stepTo (restVerdict xs) (tailPlace xs)
-  unfolding restVerdict stepTo
-  rest-past v w = rw (go-on _ (lastVerdict 14 15 16 xs (length xs) (tailPlace xs)) v, w)
+  pub rest-11 : length xs < itemsPlace xs → reach.Refused (record { number = itemCountCut; first = itemsPlace xs; second = length xs }) ≡ reached (restRows xs) (tailPlace xs)
+  unfolding restRows countVerdict refuse _▷_ reached
+  rest-11 h = rw (lt-ltb _ _ h)
 
--- ---- items that were read
+  -- the items that the code walks over are those that the body's number says
+  module _ (p n : ℕ) (a : Reached) (e : p ≡ countPlace xs) (k : n ≡ low numberItems (getD xs p 0)) (w : a ≡ reached (itemsVerdict n xs (p + countLength)) (itemPlace n xs (p + countLength))) where
+    counted : reached (itemsVerdict (itemCount xs) xs (itemsPlace xs)) (tailPlace xs) ≡ a
+    counted = rw (k, e) at (sym w)
 
--- an answer that refuses
-pub filled-not : (base n : ℕ) (xs : List ℕ) (p : ℕ) (r : ItemsRead) (a b c : ℕ) → r .verdict ≡ bad a b c → itemsVerdict n xs p ≡ bad a b c → ItemsFilled base n xs p r
-filled-not base n xs p r a b c e v =
-    record {
-      verdict = e ∙ sym v;
-      end = λ f. let z : _≡_ {A = ℕ} 0 1 = cc in absurd (omega arith);
-      items = λ f. let z : _≡_ {A = ℕ} 0 1 = cc in absurd (omega arith);
-    }
+    pub counted-at : (t : ℕ) → a ≡ reach.At t → (itemsVerdict (itemCount xs) xs (itemsPlace xs) ≡ Fine) × (tailPlace xs ≡ t)
+    counted-at t q = reached-at _ _ _ (counted ∙ q)
+
+    pub counted-refused : (r : Refusal) → a ≡ reach.Refused r → itemsVerdict (itemCount xs) xs (itemsPlace xs) ≡ Refused r
+    counted-refused r q = reached-refused _ _ _ (counted ∙ q)
+
+  module _ (h : itemsPlace xs ≤ length xs) where
+    numbered : restRows xs ≡ restVerdict xs
+    unfolding restRows countVerdict
+    numbered = go-on _ (restVerdict xs) (pass-ltb (length xs) (itemsPlace xs) _ _ _ h)
+
+    pub rest-stop : (r : Refusal) → itemsVerdict (itemCount xs) xs (itemsPlace xs) ≡ Refused r → reach.Refused r ≡ reached (restRows xs) (tailPlace xs)
+    unfolding restVerdict tailRows
+    rest-stop r v = refused-reached _ _ _ (numbered ∙ refused-then _ (tailRows xs (tailPlace xs)) r v)
+
+    pub rest-tail : (t : ℕ) → itemsVerdict (itemCount xs) xs (itemsPlace xs) ≡ Fine → tailPlace xs ≡ t → reached (tailRows xs t) t ≡ reached (restRows xs) (tailPlace xs)
+    unfolding restVerdict tailRows
+    rest-tail t v q = rw (← q) (ap (λ w. reached w (tailPlace xs)) (sym (numbered ∙ go-on _ (tailRows xs (tailPlace xs)) v)))
+
+  -- ---- the stages together
+
+  body-rows : bodyVerdict xs ≡ uriRows xs ▷ (locatorRows xs ▷ restRows xs)
+  unfolding bodyVerdict frontVerdict uriRows restRows
+  body-rows = simp then-assoc
+
+  pub stop-uri : (r : Refusal) → uriRows xs ≡ Refused r → bodyVerdict xs ≡ Refused r
+  stop-uri r v = body-rows ∙ refused-then _ _ r v
+
+  pub stop-locator : (r : Refusal) → uriRows xs ≡ Fine → locatorRows xs ≡ Refused r → bodyVerdict xs ≡ Refused r
+  stop-locator r u v = body-rows ∙ go-on _ _ u ∙ refused-then _ _ r v
+
+  pub body-rest : uriRows xs ≡ Fine → locatorRows xs ≡ Fine → bodyVerdict xs ≡ restRows xs
+  body-rest u v = body-rows ∙ go-on _ _ u ∙ go-on _ _ v
+
+  -- ---- the record
+
+  pub laid : (u p t : ℕ) → Bytes xs → Found xs u p t → Laid xs u p t
+  laid u p t b f =
+      let k = body-known xs (f .fine) in
+      let front = front-known xs (k .0) in
+      record {
+        uri = f .uri;
+        count = f .count;
+        tail = f .tail;
+        headed = front .four;
+        reaches = omega (arith, front .uri, f .uri);
+        counts = omega (arith, front .within, f .count);
+        ends = omega (arith, rest-known xs (k .1) .1, f .tail);
+        short = omega (arith, uri-far xs b, f .uri);
+        first = omega (arith, count-far xs b, f .count);
+        near = omega (arith, tail-far xs b, f .tail);
+      }
+
+  pub uri-info : (base : ℕ) → uriTo base (uriEnd xs) ≡ uriInfo base xs
+  unfolding uriTo
+  uri-info base = go (uriDue (typeAt xs))
+    where
+      n : ℕ
+      n = getD xs headLength 0
+
+      back : uriStart + n - uriStart ≡ n
+      back = omega arith
+
+      go : (b : Bool) → uriTo base (pick b (uriStart + n) headLength) ≡ pick b (uri.Present (record { start = base + uriStart; length = n })) uri.Absent
+      go true = rw (le-ltb (uriStart + n) uriStart (omega arith), back)
+      go false = refl
+
+  -- the locator of a link whose type has none, and of one whose type has one, read from the part behind the URI
+  pub held-not-due : locatorDue (typeAt xs) ≡ false → locator.Absent ≡ locatorInfo xs
+  held-not-due d = rw d
+
+  module _ (p : ℕ) (u : p ≡ uriEnd xs) (d : locatorDue (typeAt xs) ≡ true) (a : LocatorRead) (q : a ≡ readLocator (take (length xs - p) (drop p xs))) where
+    said : a ≡ locatorIn xs
+    said = q ∙ ap readLocator (rest-part xs p) ∙ ap (λ e. readLocator (drop e xs)) u
+
+    pub held-got : (l : DvbBinaryLocator) (n : ℕ) → a ≡ read.Got l n → locator.Present l ≡ locatorInfo xs
+    held-got l n z = rw (d, sym said ∙ z)
+
+    -- never where the body is accepted: its rows have read the same locator
+    pub held-refused : (r : Refusal) → a ≡ read.Refused r → bodyVerdict xs ≡ Fine → ⊥
+    unfolding frontVerdict locatorRows
+    held-refused r z v =
+        let front = then-fine _ _ (body-known xs v .0) in
+        let rows = then-fine (locatorRows xs) _ (then-fine (uriVerdict xs) _ (front .1) .1) .0 in
+        let f : Refused r ≡ Fine = then-fine _ _ (rw (d, sym said ∙ z) at rows) .1 in
+        let y : _≡_ {A = ℕ} 0 1 = cc in
+        absurd (omega arith)

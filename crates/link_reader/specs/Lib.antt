@@ -1,2 +1,3 @@
--- What the stages of reading a body answer.
-pub mod Steps
+-- What `body_places` answers; and apart from it what only private stages of the code answer.
+pub mod Places
+pub mod Stages

@@ -1,2 +1,3 @@
--- That the writing's contract leaves one outcome.
+-- How the stages of the writing follow one another, and that its contract leaves one outcome.
+pub mod Stages
 pub mod Unique

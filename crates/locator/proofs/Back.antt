@@ -12,7 +12,7 @@ use Rattle.field.specs.Fields.{startDate, locatorReserved, tripletId, inlineRes
 use Rattle.wire.specs.Numbers.{word16, be16}
 use Rattle.wire.proofs.Words.{word16-back}
 use Rattle.locator.specs.Syntax.{headLength, tripletLength, inlineLength, typeOf, isInline, lastBits, headOf, identifierBytes, windowsBytes, locatorBytes, serviceLength, identifierLength, windowsLength, locatorLength, WindowsFit, Narrow, areHere, areDue, Ruled, Fits, locatorOf}
-use Rattle.locator.specs.Reading.{typeIn, reliable, inline, serviceEnd, tailLength, identifierAt, windowsAt, partsAt, locatorAt, sizeAt, readLocator}
+use Rattle.locator.specs.Reading.{typeIn, reliable, inline, serviceEnd, tailLength, identifierAt, windowsAt, headedAt, locatorAt, sizeAt, readLocator}
 use Rattle.locator.specs.declared.DvbBinaryLocator.{DvbBinaryLocator}
 use Rattle.locator.specs.declared.DvbLocatorService.{DvbLocatorService}
 use Rattle.locator.specs.declared.DvbLocatorService.the-variants.{Triplet, Full}
@@ -32,26 +32,28 @@ bit-is true = refl
 bit-is false = refl
 
 module _ (l : DvbBinaryLocator) (f : Narrow l) where
-  type-back : typeIn (headOf l) ≡ typeOf (l .identifier)
+  pub type-back : typeIn (headOf l) ≡ typeOf (l .identifier)
   type-back = omega (arith, bit-le (l .«scheduled_time_reliability»), bit-le (isInline (l .service)), last-le (l .service) (f .service))
 
+  pub reliable-bit : headOf l / 0x2000 % 2 ≡ bit (l .«scheduled_time_reliability»)
+  reliable-bit = omega (arith, bit-le (l .«scheduled_time_reliability»), bit-le (isInline (l .service)), last-le (l .service) (f .service))
+
   reliable-back : reliable (headOf l) ≡ l .«scheduled_time_reliability»
-  reliable-back =
-      let e : headOf l / 0x2000 % 2 ≡ bit (l .«scheduled_time_reliability») = omega (arith, bit-le (l .«scheduled_time_reliability»), bit-le (isInline (l .service)), last-le (l .service) (f .service)) in
-      rw e (bit-is (l .«scheduled_time_reliability»))
+  reliable-back = rw reliable-bit (bit-is (l .«scheduled_time_reliability»))
+
+  pub inline-bit : headOf l / 0x1000 % 2 ≡ bit (isInline (l .service))
+  inline-bit = omega (arith, bit-le (isInline (l .service)), last-le (l .service) (f .service))
 
   inline-back : inline (headOf l) ≡ isInline (l .service)
-  inline-back =
-      let e : headOf l / 0x1000 % 2 ≡ bit (isInline (l .service)) = omega (arith, bit-le (isInline (l .service)), last-le (l .service) (f .service)) in
-      rw e (bit-is (isInline (l .service)))
+  inline-back = rw inline-bit (bit-is (isInline (l .service)))
 
-  reserved-back : low locatorReserved (headOf l / 0x800) ≡ l .reserved
+  pub reserved-back : low locatorReserved (headOf l / 0x800) ≡ l .reserved
   reserved-back = omega (arith, last-le (l .service) (f .service))
 
-  date-back : low startDate (headOf l / 4) ≡ l .«start_date»
+  pub date-back : low startDate (headOf l / 4) ≡ l .«start_date»
   date-back = omega (arith, last-le (l .service) (f .service))
 
-  last-back : low inlineReserved (headOf l) ≡ lastBits (l .service)
+  pub last-back : low inlineReserved (headOf l) ≡ lastBits (l .service)
   last-back = omega (arith, last-le (l .service) (f .service))
 
 -- a triplet id, whose highest bits are the head's lowest
@@ -99,13 +101,13 @@ module _ (l : DvbBinaryLocator) (f : Narrow l) (d : Ruled l) (rest : List ℕ) w
       go (Full r ts on sv) = refl
 
 module _ (r : Bool) (s d t u : ℕ) (i : DvbLocatorIdentifier) (w : DvbLocatorWindows) (rest : List ℕ) where
-  parts-back : (v : DvbLocatorService) → Narrow (locatorOf r s d v t u i w) → Ruled (locatorOf r s d v t u i w) → let l = locatorOf r s d v t u i w in partsAt (locatorBytes l ++ rest) (headOf l) (serviceEnd (headOf l)) ≡ l
+  fields-back : (v : DvbLocatorService) → Narrow (locatorOf r s d v t u i w) → Ruled (locatorOf r s d v t u i w) → let l = locatorOf r s d v t u i w in headedAt (locatorBytes l ++ rest) (headOf l) (serviceEnd (headOf l)) ≡ l
   unfolding locatorBytes
-  parts-back (Triplet k) f e =
+  fields-back (Triplet k) f e =
       let l = locatorOf r s d (Triplet k) t u i w in
       let g = tail l f e rest in
       simp (append-assoc, inline-back l f, reserved-back l f, date-back l f, triplet-back (headOf l) k (f .service) (last-back l f), word16-back, g .identifier, rw (reliable-back l f) at (g .windows), reliable-back l f)
-  parts-back (Full b x y z) f e =
+  fields-back (Full b x y z) f e =
       let l = locatorOf r s d (Full b x y z) t u i w in
       let g = tail l f e rest in
       simp (append-assoc, inline-back l f, reserved-back l f, date-back l f, last-back l f, word16-back, g .identifier, rw (reliable-back l f) at (g .windows), reliable-back l f)
@@ -114,4 +116,4 @@ pub read-back : (l : DvbBinaryLocator) (rest : List ℕ) → Fits l → readLoca
 unfolding locatorAt
 read-back l rest f =
     read-fine (locatorBytes l ++ rest) (enough-fine (locatorBytes l ++ rest) (omega (arith, size-back l (f .narrow) (f .rule) rest, length-append (locatorBytes l) rest)))
-    ∙ ap₂ Got (rw (head-back l rest) (parts-back (l .«scheduled_time_reliability») (l .reserved) (l .«start_date») (l .«start_time») (l .duration) (l .identifier) (l .windows) rest (l .service) (f .narrow) (f .rule))) (size-back l (f .narrow) (f .rule) rest)
+    ∙ ap₂ Got (rw (head-back l rest) (fields-back (l .«scheduled_time_reliability») (l .reserved) (l .«start_date») (l .«start_time») (l .duration) (l .identifier) (l .windows) rest (l .service) (f .narrow) (f .rule))) (size-back l (f .narrow) (f .rule) rest)

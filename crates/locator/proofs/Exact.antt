@@ -3,19 +3,18 @@
 -- Assumes nothing.
 use Prim.Native.Nat.{ℕ}
 use mathlib.Core.Path.{_≡_, sym, ap, _∙_}
-use mathlib.Core.List.{List, [], _++_}
+use mathlib.Core.List.{List, _++_}
 use lib.ListN.{length, drop, take-append-drop}
 use lib.Seq.{drop-append-seam}
 use Rattle.wire.specs.Lists.{Bytes}
 use Rattle.wire.specs.declared.verdict.Verdict.the-variants.{Fine}
-use Rattle.locator.specs.Syntax.{locatorBytes, locatorLength, Narrow, Ruled, Fits}
+use Rattle.locator.specs.Syntax.{locatorBytes, Fits}
 use Rattle.locator.specs.Reading.{locatorAt, sizeAt, locatorVerdict, readLocator}
 use Rattle.locator.specs.declared.DvbBinaryLocator.{DvbBinaryLocator}
 use Rattle.locator.specs.declared.reading.LocatorRead.the-variants.{Got}
 use Rattle.locator.proofs.Answers.{got-had}
-use Rattle.locator.proofs.Back.{size-back, read-back}
+use Rattle.locator.proofs.Back.{read-back}
 use Rattle.locator.proofs.Rebuild.{fine-rebuilt}
-use Rattle.locator.proofs.Sizes.{OneOf, lengths, bytes-length, size-eight}
 
 -- xs begins with the bytes of a fitting locator
 pub record Spelt (xs : List ℕ) : Type 0 where
@@ -39,7 +38,3 @@ one-locator l m r s f g e =
     let q : readLocator (locatorBytes m ++ s) ≡ Got m (length (locatorBytes m)) = read-back m s g in
     let same : l ≡ m = cc in
     (same, sym (drop-append-seam (locatorBytes l) r) ∙ ap (λ xs. drop (length (locatorBytes l)) xs) e ∙ rw same (drop-append-seam (locatorBytes m) s))
-
--- a locator has one of the eight lengths
-pub length-eight : (l : DvbBinaryLocator) → Narrow l → Ruled l → OneOf lengths (locatorLength l)
-length-eight l f r = rw (← bytes-length l, ← size-back l f r []) (size-eight (locatorBytes l ++ []))

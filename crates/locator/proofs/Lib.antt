@@ -5,7 +5,9 @@ pub mod Spelling
 pub mod Back
 pub mod Rebuild
 pub mod Exact
+pub mod Made
 pub mod Checked
 pub mod Written
 pub mod Rows
+pub mod Listed
 pub mod Unique

@@ -15,7 +15,7 @@ use Rattle.wire.specs.Choice.{bit}
 use Rattle.field.specs.Fields.{tripletId, low}
 use Rattle.wire.specs.Lists.{Bytes, part, firsts}
 use Rattle.wire.specs.Numbers.{bytes16, be16}
-use Rattle.wire.proofs.Parts.{bytes-at, firsts-part}
+use Rattle.wire.proofs.Lists.{bytes-at, firsts-part}
 use Rattle.wire.proofs.Words.{word16-high, word16-low}
 use Rattle.locator.specs.Syntax.{timesLength, typeOf, isInline, lastBits, headOf, serviceBytes, identifierBytes, windowsBytes, locatorBytes, ServiceFits, WindowsFit, areHere, areDue, ServiceCarried, IdentifierCarried, Fits}
 use Rattle.locator.specs.Reading.{typeIn, reliable, inline, serviceEnd, tailLength, serviceAt, identifierAt, windowsAt, locatorAt, sizeAt, locatorVerdict, readLocator}
@@ -42,7 +42,7 @@ head-fields h = omega (arith, div-div-eq-div-mul h 4 512, div-div-eq-div-mul h 0
 regroup : (a b c d e f : List ℕ) → a ++ b ++ (c ++ d) ++ (e ++ f) ≡ a ++ b ++ c ++ d ++ e ++ f
 regroup a b c d e f = simp append-assoc
 
--- ---- each part of what was read has the bytes that it was read from, and fits
+-- ---- each field that was read has the bytes that it was read from, and fits
 
 record ServiceIs (v : DvbLocatorService) (inl : Bool) (last : ℕ) : Type 0 where
   inline-is : isInline v ≡ inl

@@ -1,15 +1,16 @@
--- How many bytes a locator has: its syntax has as many as its length says, and a reading takes one of eight numbers.
+-- How many bytes a locator has: its syntax has as many as its length says, one of eight numbers if its windows are as the
+-- rule has them; and a reading takes one of the eight.
 -- Assumes nothing.
-use Prim.Native.Nat.{ℕ, _≤_}
+use Prim.Native.Nat.{ℕ, _+_, _≤_}
 use mathlib.Core.Path.{_≡_, refl}
 use mathlib.Core.Logic.{_⊎_, inl, inr}
-use mathlib.Core.Bool.{Bool, true, false}
+use mathlib.Core.Bool.{Bool, true, false, true≢false}
 use mathlib.Core.List.{List, [], _∷_}
 use native.Mathlib.Omega.{arith}
 use lib.Dec.{eqb}
 use lib.ListN.{length, length-append}
 use Rattle.wire.specs.Numbers.{be16}
-use Rattle.locator.specs.Syntax.{serviceBytes, identifierBytes, windowsBytes, locatorBytes, serviceLength, identifierLength, windowsLength, locatorLength, shortestLocator, longestLocator}
+use Rattle.locator.specs.Syntax.{serviceBytes, identifierBytes, windowsBytes, locatorBytes, headLength, timesLength, serviceLength, identifierLength, windowsLength, locatorLength, shortestLocator, longestLocator, areHere, areDue, Ruled}
 use Rattle.locator.specs.Reading.{typeIn, reliable, inline, sizeAt, readLocator}
 use Rattle.locator.specs.declared.DvbBinaryLocator.{DvbBinaryLocator}
 use Rattle.locator.specs.declared.DvbLocatorService.{DvbLocatorService}
@@ -59,6 +60,30 @@ between n (inr (inr (inr (inr (inl e))))) = (omega arith, omega arith)
 between n (inr (inr (inr (inr (inr (inl e)))))) = (omega arith, omega arith)
 between n (inr (inr (inr (inr (inr (inr (inl e))))))) = (omega arith, omega arith)
 between n (inr (inr (inr (inr (inr (inr (inr (inl e)))))))) = (omega arith, omega arith)
+
+-- a locator whose windows are as the rule has them, whatever its narrow fields hold
+pub length-eight : (l : DvbBinaryLocator) → Ruled l → OneOf lengths (locatorLength l)
+unfolding locatorLength
+length-eight l d = go (l .service) (l .identifier) (l .windows) (l .«scheduled_time_reliability») d
+  where
+    go : (v : DvbLocatorService) (i : DvbLocatorIdentifier) (w : DvbLocatorWindows) (r : Bool) → areHere w ≡ areDue i r → OneOf lengths (headLength + serviceLength v + timesLength + identifierLength i + windowsLength w)
+    go (Triplet t) None Absent r e = inl refl
+    go (Triplet t) None (Present x a) r e = inr (inl refl)
+    go (Triplet t) (EventId k) Absent r e = inr (inr (inl refl))
+    go (Triplet t) (TvaIdEit k) Absent r e = inr (inr (inl refl))
+    go (Triplet t) (TvaIdPes k c) Absent r e = inr (inr (inr (inl refl)))
+    go (Full b ts on sv) None Absent r e = inr (inr (inr (inr (inl refl))))
+    go (Full b ts on sv) None (Present x a) r e = inr (inr (inr (inr (inr (inl refl)))))
+    go (Full b ts on sv) (EventId k) Absent r e = inr (inr (inr (inr (inr (inr (inl refl))))))
+    go (Full b ts on sv) (TvaIdEit k) Absent r e = inr (inr (inr (inr (inr (inr (inl refl))))))
+    go (Full b ts on sv) (TvaIdPes k c) Absent r e = inr (inr (inr (inr (inr (inr (inr (inl refl)))))))
+    go v (EventId k) (Present x a) r e = absurd (true≢false e)
+    go v (TvaIdEit k) (Present x a) r e = absurd (true≢false e)
+    go v (TvaIdPes k c) (Present x a) r e = absurd (true≢false e)
+
+-- so the shortest and the longest are the two ends
+pub length-between : (l : DvbBinaryLocator) → Ruled l → (shortestLocator ≤ locatorLength l) × (locatorLength l ≤ longestLocator)
+length-between l d = between (locatorLength l) (length-eight l d)
 
 pub size-eight : (xs : List ℕ) → OneOf lengths (sizeAt xs)
 unfolding sizeAt

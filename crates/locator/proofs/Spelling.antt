@@ -8,7 +8,7 @@ use Rattle.wire.specs.Choice.{bit}
 use Rattle.field.specs.Fields.{inlineReserved}
 use Rattle.wire.specs.Lists.{Bytes}
 use Rattle.wire.specs.Numbers.{bytes16}
-use Rattle.wire.proofs.Parts.{bytes-append}
+use Rattle.wire.proofs.Lists.{bytes-append}
 use Rattle.locator.specs.Syntax.{typeOf, isInline, lastBits, headOf, serviceBytes, identifierBytes, windowsBytes, locatorBytes, ServiceFits, WindowsFit, Narrow, ServiceCarried, IdentifierCarried, Fits}
 use Rattle.locator.specs.declared.DvbBinaryLocator.{DvbBinaryLocator}
 use Rattle.locator.specs.declared.DvbLocatorService.{DvbLocatorService}
@@ -37,7 +37,7 @@ last-le (Full r ts on sv) f = f
 pub head-lt : (l : DvbBinaryLocator) → Narrow l → headOf l < 65536
 head-lt l f = omega (arith, type-le (l .identifier), bit-le (l .«scheduled_time_reliability»), bit-le (isInline (l .service)), last-le (l .service) (f .service))
 
--- ---- the parts
+-- ---- the fields
 
 word-bytes : (n : ℕ) → n < 65536 → Bytes (bytes16 n)
 word-bytes n h = (omega arith, (omega arith, tt))

@@ -1,52 +1,95 @@
--- What writing gives: the bytes of a locator that passes the checks, with zeros behind them, and read back as the locator.
+-- What writing gives: the bytes of any record, taken by its lowest bits; of a locator that passes the checks, or fits, its
+-- own bytes, which read back as it.
 -- Assumes nothing.
 use Prim.Native.Nat.{ℕ, _+_, _-_, _≤_}
-use mathlib.Core.Path.{_≡_, refl, sym, ap, _∙_}
-use mathlib.Core.List.{List, [], _++_}
+use mathlib.Core.Path.{_≡_, refl, sym, ap, ap₂, _∙_}
+use mathlib.Core.List.{List, _++_}
 use native.Mathlib.Omega.{arith}
 use native.Mathlib.Nat.{zero-add}
 use lib.ListN.{length, take, drop, length-replicate, replicate-append-replicate}
 use lib.Seq.{sets, sets-eq, drop-at, take-at}
 use Rattle.wire.specs.Stores.{Wrote}
-use Rattle.wire.specs.Verdict.{_▷_}
-use Rattle.wire.specs.declared.verdict.Refusal.{Refusal}
-use Rattle.wire.specs.declared.verdict.Verdict.{Verdict}
-use Rattle.wire.specs.declared.verdict.Verdict.the-variants.{Fine, Refused}
-use Rattle.wire.proofs.Verdicts.{then-fine}
-use Rattle.locator.specs.Syntax.{locatorBytes, locatorLength, longestLocator, Narrow, Carried}
-use Rattle.locator.specs.Checks.{checkFields, checkWindows, checkLocator}
+use Rattle.wire.specs.declared.verdict.Verdict.the-variants.{Fine}
+use Rattle.field.specs.Fields.{startDate, locatorReserved, tripletId, inlineReserved, earlyStart, lateEnd}
+use Rattle.field.proofs.Checks.{low-whole}
+use Rattle.locator.specs.Syntax.{inlineLength, idLength, componentLength, windowLength, locatorBytes, serviceLength, identifierLength, windowsLength, locatorLength, ServiceFits, WindowsFit, Narrow, Fits, locatorOf}
+use Rattle.locator.specs.Checks.{checkFields}
 use Rattle.locator.specs.Reading.{readLocator}
-use Rattle.locator.specs.Writing.{zeros, written, toBytes}
+use Rattle.locator.specs.Writing.{narrowedService, narrowedWindows, narrowed, longestWritten, zeros, writtenLocator}
 use Rattle.locator.specs.declared.DvbBinaryLocator.{DvbBinaryLocator}
+use Rattle.locator.specs.declared.DvbLocatorService.{DvbLocatorService}
+use Rattle.locator.specs.declared.DvbLocatorService.the-variants.{Triplet, Full}
+use Rattle.locator.specs.declared.DvbLocatorIdentifier.{DvbLocatorIdentifier}
+use Rattle.locator.specs.declared.DvbLocatorIdentifier.the-variants.{None, EventId, TvaIdEit, TvaIdPes}
+use Rattle.locator.specs.declared.DvbLocatorWindows.{DvbLocatorWindows}
+use Rattle.locator.specs.declared.DvbLocatorWindows.the-variants.{Absent, Present}
 use Rattle.locator.specs.declared.reading.LocatorRead.the-variants.{Got}
 use Rattle.locator.proofs.Back.{read-back}
-use Rattle.locator.proofs.Checked.{fields-narrow, windows-ruled, checked-fits}
-use Rattle.locator.proofs.Exact.{length-eight}
-use Rattle.locator.proofs.Sizes.{bytes-length, between}
+use Rattle.locator.proofs.Checked.{fields-narrow}
+use Rattle.locator.proofs.Sizes.{bytes-length}
 
--- ---- by the verdict
+-- ---- lowest bits: they fit, and what fits keeps all of its own
 
-pub written-fine : (l : DvbBinaryLocator) → checkLocator l ≡ Fine → toBytes l ≡ written Fine (locatorBytes l)
-unfolding toBytes
-written-fine l e = rw e
+service-narrow : (v : DvbLocatorService) → ServiceFits (narrowedService v)
+service-narrow (Triplet t) = omega arith
+service-narrow (Full r ts on sv) = omega arith
 
-pub written-refused : (l : DvbBinaryLocator) (r : Refusal) → checkLocator l ≡ Refused r → toBytes l ≡ written (Refused r) []
-unfolding toBytes
-written-refused l r e = rw e
+windows-narrow : (w : DvbLocatorWindows) → WindowsFit (narrowedWindows w)
+windows-narrow Absent = tt
+windows-narrow (Present e a) = (omega arith, omega arith)
 
--- the verdict, put together of the two checks
-pub checked : (l : DvbBinaryLocator) (v a b : Verdict) → v ≡ a ▷ b → a ≡ checkFields l → b ≡ checkWindows l → checkLocator l ≡ v
-unfolding checkLocator
-checked l v a b e f g = cc
+pub narrowed-narrow : (l : DvbBinaryLocator) → Narrow (narrowed l)
+narrowed-narrow l = record { date = omega arith; reserved = omega arith; service = service-narrow (l .service); windows = windows-narrow (l .windows) }
 
--- ---- room, and what the stores leave
+service-whole : (v : DvbLocatorService) → ServiceFits v → narrowedService v ≡ v
+service-whole (Triplet t) f = ap Triplet (low-whole tripletId t f)
+service-whole (Full r ts on sv) f = ap (λ x. Full x ts on sv) (low-whole inlineReserved r f)
 
-pub fine-room : (l : DvbBinaryLocator) → checkLocator l ≡ Fine → Narrow l × (locatorLength l ≤ longestLocator)
-unfolding checkLocator
-fine-room l e =
-    let p = then-fine _ _ e in
-    let n = fields-narrow l (p .0) in
-    (n, between (locatorLength l) (length-eight l n (windows-ruled l (p .1))) .1)
+windows-whole : (w : DvbLocatorWindows) → WindowsFit w → narrowedWindows w ≡ w
+windows-whole Absent f = refl
+windows-whole (Present e a) f = ap₂ Present (low-whole earlyStart e (f .0)) (low-whole lateEnd a (f .1))
+
+pub narrowed-same : (l : DvbBinaryLocator) → Narrow l → narrowed l ≡ l
+narrowed-same l f =
+    let reserved = low-whole locatorReserved (l .reserved) (f .reserved) in
+    let date = low-whole startDate (l .«start_date») (f .date) in
+    let service = service-whole (l .service) (f .service) in
+    let windows = windows-whole (l .windows) (f .windows) in
+    λ i. locatorOf (l .«scheduled_time_reliability») (reserved i) (date i) (service i) (l .«start_time») (l .duration) (l .identifier) (windows i)
+
+-- ---- as many as the length says, and never more than there is room for
+
+service-size : (v : DvbLocatorService) → serviceLength (narrowedService v) ≡ serviceLength v
+service-size (Triplet t) = refl
+service-size (Full r ts on sv) = refl
+
+windows-size : (w : DvbLocatorWindows) → windowsLength (narrowedWindows w) ≡ windowsLength w
+windows-size Absent = refl
+windows-size (Present e a) = refl
+
+pub narrowed-length : (l : DvbBinaryLocator) → locatorLength (narrowed l) ≡ locatorLength l
+unfolding locatorLength
+narrowed-length l = rw (service-size (l .service), windows-size (l .windows))
+
+service-most : (v : DvbLocatorService) → serviceLength v ≤ inlineLength
+service-most (Triplet t) = omega arith
+service-most (Full r ts on sv) = omega arith
+
+identifier-most : (i : DvbLocatorIdentifier) → identifierLength i ≤ idLength + componentLength
+identifier-most None = omega arith
+identifier-most (EventId e) = omega arith
+identifier-most (TvaIdEit t) = omega arith
+identifier-most (TvaIdPes t c) = omega arith
+
+windows-most : (w : DvbLocatorWindows) → windowsLength w ≤ windowLength
+windows-most Absent = omega arith
+windows-most (Present e a) = omega arith
+
+pub length-most : (l : DvbBinaryLocator) → locatorLength l ≤ longestWritten
+unfolding locatorLength
+length-most l = omega (arith, service-most (l .service), identifier-most (l .identifier), windows-most (l .windows))
+
+-- ---- what the stores leave
 
 length-zeros : (n : ℕ) → length (zeros n) ≡ n
 length-zeros n = length-replicate {A = ℕ} n 0
@@ -62,17 +105,41 @@ stored n vs h =
     let room : 0 + length vs ≤ length (zeros n) = omega (arith, length-zeros n) in
     sets-eq vs (zeros n) 0 room ∙ rw zero-add (ap (λ zs. vs ++ zs) (drop-zeros n (length vs) h))
 
-pub wrote-written : (l : DvbBinaryLocator) (ys : List ℕ) (n : ℕ) → checkLocator l ≡ Fine → Wrote (zeros longestLocator) 0 (locatorBytes l) ys n → record { verdict = Fine; bytes = ys; length = n } ≡ toBytes l
-wrote-written l ys n e w =
-    let long : length (locatorBytes l) ≤ longestLocator = rw (bytes-length l) (fine-room l e .1) in
-    let ys-is : ys ≡ locatorBytes l ++ zeros (longestLocator - length (locatorBytes l)) = w .bytes ∙ stored longestLocator (locatorBytes l) long in
-    let n-is : n ≡ length (locatorBytes l) = omega (arith, w .place) in
-    (λ i. record { verdict = Fine; bytes = ys-is i; length = n-is i }) ∙ sym (written-fine l e)
+pub wrote-written : (l : DvbBinaryLocator) (ys : List ℕ) (n : ℕ) → Wrote (zeros longestWritten) 0 (locatorBytes (narrowed l)) ys n → record { bytes = ys; length = n } ≡ writtenLocator l
+unfolding writtenLocator
+wrote-written l ys n w =
+    let xs = locatorBytes (narrowed l) in
+    let long : length xs ≤ longestWritten = omega (arith, bytes-length (narrowed l), length-most (narrowed l)) in
+    let ys-is : ys ≡ xs ++ zeros (longestWritten - length xs) = w .bytes ∙ stored longestWritten xs long in
+    let n-is : n ≡ length xs = omega (arith, w .place) in
+    λ i. record { bytes = ys-is i; length = n-is i }
 
--- ---- the bytes alone, and read back
+-- ---- of any record
 
-pub written-take : (l : DvbBinaryLocator) → checkLocator l ≡ Fine → take (toBytes l .length) (toBytes l .bytes) ≡ locatorBytes l
-written-take l e = rw (written-fine l e) (take-at (locatorBytes l) (zeros (longestLocator - length (locatorBytes l))) (length (locatorBytes l)) refl)
+pub written-take : (l : DvbBinaryLocator) → take (writtenLocator l .length) (writtenLocator l .bytes) ≡ locatorBytes (narrowed l)
+unfolding writtenLocator
+written-take l = let xs = locatorBytes (narrowed l) in take-at xs (zeros (longestWritten - length xs)) (length xs) refl
 
-pub written-read : (l : DvbBinaryLocator) → Carried l → checkLocator l ≡ Fine → readLocator (toBytes l .bytes) ≡ Got l (toBytes l .length)
-written-read l c e = rw (written-fine l e) (read-back l (zeros (longestLocator - length (locatorBytes l))) (checked-fits l c e))
+pub written-length : (l : DvbBinaryLocator) → writtenLocator l .length ≡ locatorLength l
+unfolding writtenLocator
+written-length l = bytes-length (narrowed l) ∙ narrowed-length l
+
+-- ---- of one whose fields are narrow enough, as are those of one that fits or passes the checks
+
+pub record WrittenAs (l : DvbBinaryLocator) : Type 0 where
+  pub same : narrowed l ≡ l
+  pub bytes : take (writtenLocator l .length) (writtenLocator l .bytes) ≡ locatorBytes l
+  pub number : writtenLocator l .length ≡ locatorLength l
+
+pub written-narrow : (l : DvbBinaryLocator) → Narrow l → WrittenAs l
+written-narrow l f = let same = narrowed-same l f in record { same = same; bytes = written-take l ∙ ap locatorBytes same; number = written-length l }
+
+pub written-fits : (l : DvbBinaryLocator) → Fits l → WrittenAs l
+written-fits l f = written-narrow l (f .narrow)
+
+pub written-checked : (l : DvbBinaryLocator) → checkFields l ≡ Fine → WrittenAs l
+written-checked l e = written-narrow l (fields-narrow l e)
+
+pub written-read : (l : DvbBinaryLocator) → Fits l → readLocator (writtenLocator l .bytes) ≡ Got l (writtenLocator l .length)
+unfolding writtenLocator
+written-read l f = rw (narrowed-same l (f .narrow)) (read-back l (zeros (longestWritten - length (locatorBytes l))) f)

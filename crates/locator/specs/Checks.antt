@@ -1,4 +1,4 @@
--- What is checked of a locator before it is written: 22 of each narrow field, lowest place first, and 24 of the windows. A
+-- What is checked of a locator before it is written: 22 of each narrow field, lowest rank first, and 24 of the windows. A
 -- link has checks of its own between the two.
 -- Assumes nothing.
 use mathlib.Core.Bool.{xor}
@@ -29,6 +29,3 @@ checkFields l = checkField startDate (l .«start_date») ▷ checkField locatorR
 -- windows present against the rule, or missing
 unfoldable pub checkWindows : DvbBinaryLocator → Verdict
 checkWindows l = refuse (xor (areHere (l .windows)) (areDue (l .identifier) (l .«scheduled_time_reliability»))) againstRule 0 0
-
-unfoldable pub checkLocator : DvbBinaryLocator → Verdict
-checkLocator l = checkFields l ▷ checkWindows l

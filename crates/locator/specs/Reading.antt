@@ -1,5 +1,6 @@
 -- What reading a locator at the start of some bytes gives: a verdict, row by row in reading order, and apart from it the
--- locator that stands there and the bytes that it takes, which mean something where the verdict is Fine.
+-- locator that stands there and the bytes that it takes, which mean something where the verdict is Fine. Asked only for its
+-- size, the answer is the same verdict and the same number of bytes.
 -- Assumes nothing.
 use Prim.Native.Nat.{ℕ, _+_, _/_, _%_}
 use mathlib.Core.Bool.{Bool, false}
@@ -11,6 +12,7 @@ use Rattle.wire.specs.Numbers.{be16}
 use Rattle.field.specs.Fields.{startDate, locatorReserved, tripletId, inlineReserved, earlyStart, lateEnd, low}
 use Rattle.wire.specs.Refusals.{locatorCut}
 use Rattle.wire.specs.Verdict.{refuse, _▷_}
+use Rattle.wire.specs.declared.verdict.Refusal.{Refusal}
 use Rattle.wire.specs.declared.verdict.Verdict.{Verdict}
 use Rattle.wire.specs.declared.verdict.Verdict.the-variants.{Fine, Refused}
 use Rattle.locator.specs.Syntax.{headLength, tripletLength, inlineLength, timesLength, idLength, componentLength, windowLength}
@@ -21,6 +23,8 @@ use Rattle.locator.specs.declared.DvbLocatorIdentifier.{DvbLocatorIdenti
 use Rattle.locator.specs.declared.DvbLocatorIdentifier.the-variants.{None, EventId, TvaIdEit, TvaIdPes}
 use Rattle.locator.specs.declared.DvbLocatorWindows.{DvbLocatorWindows}
 use Rattle.locator.specs.declared.DvbLocatorWindows.the-variants.{Absent, Present}
+use Rattle.locator.specs.declared.reading.LocatorSize.{LocatorSize}
+use Rattle.locator.specs.declared.reading.LocatorSize.the-variants.{Used, Refused as NotSized}
 use Rattle.locator.specs.declared.reading.LocatorRead.{LocatorRead}
 use Rattle.locator.specs.declared.reading.LocatorRead.the-variants.{Got, Refused as NotRead}
 
@@ -63,8 +67,8 @@ abbrev pub windowsAt : List ℕ → ℕ → ℕ → DvbLocatorWindows
 windowsAt xs h p = pick (windowsDue h) (Present (low earlyStart (getD xs p 0 / 32)) (low lateEnd (getD xs p 0))) Absent
 
 -- the locator with the head h whose times start at p
-abbrev pub partsAt : List ℕ → ℕ → ℕ → DvbBinaryLocator
-partsAt xs h p = record {
+abbrev pub headedAt : List ℕ → ℕ → ℕ → DvbBinaryLocator
+headedAt xs h p = record {
   «scheduled_time_reliability» = reliable h;
   reserved = low locatorReserved (h / 0x800);
   «start_date» = low startDate (h / 4);
@@ -76,7 +80,7 @@ partsAt xs h p = record {
 }
 
 unfoldable pub locatorAt : List ℕ → DvbBinaryLocator
-locatorAt xs = partsAt xs (be16 xs 0) (serviceEnd (be16 xs 0))
+locatorAt xs = headedAt xs (be16 xs 0) (serviceEnd (be16 xs 0))
 
 -- the bytes that it takes
 unfoldable pub sizeAt : List ℕ → ℕ
@@ -93,8 +97,19 @@ locatorVerdict xs =
     needs xs headLength ▷ needs xs (serviceEnd (be16 xs 0)) ▷ needs xs (serviceEnd (be16 xs 0) + timesLength) ▷ needs xs (sizeAt xs)
 
 -- refused: cut off
+abbrev pub cutOff : ℕ → ℕ → Refusal
+cutOff need have = record { number = locatorCut; first = need; second = have }
+
 abbrev pub cut : ℕ → ℕ → LocatorRead
-cut need have = NotRead (record { number = locatorCut; first = need; second = have })
+cut need have = NotRead (cutOff need have)
+
+-- the number of bytes alone, by the verdict
+abbrev pub sized : Verdict → ℕ → LocatorSize
+sized Fine n = Used n
+sized (Refused r) n = NotSized r
+
+unfoldable pub locatorSize : List ℕ → LocatorSize
+locatorSize xs = sized (locatorVerdict xs) (sizeAt xs)
 
 -- the answer that a verdict makes of what stands there
 abbrev pub answer : Verdict → DvbBinaryLocator → ℕ → LocatorRead

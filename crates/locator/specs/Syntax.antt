@@ -163,7 +163,13 @@ pub record Fits (l : DvbBinaryLocator) : Type 0 where
   pub rule : Ruled l
   pub carried : Carried l
 
--- ---- made of its parts, and with every reserved bit a one
+-- ---- made of their fields, and with every reserved bit a one
+
+abbrev pub inlineService : ℕ → ℕ → ℕ → ℕ → DvbLocatorService
+inlineService r ts on sv = Full r ts on sv
+
+abbrev pub fullService : ℕ → ℕ → ℕ → DvbLocatorService
+fullService ts on sv = inlineService (inlineReserved .widest) ts on sv
 
 abbrev pub locatorOf : Bool → ℕ → ℕ → DvbLocatorService → ℕ → ℕ → DvbLocatorIdentifier → DvbLocatorWindows → DvbBinaryLocator
 locatorOf r s d v t u i w = record {
@@ -179,6 +185,3 @@ locatorOf r s d v t u i w = record {
 
 abbrev pub newLocator : Bool → ℕ → DvbLocatorService → ℕ → ℕ → DvbLocatorIdentifier → DvbLocatorWindows → DvbBinaryLocator
 newLocator r d v t u i w = locatorOf r (locatorReserved .widest) d v t u i w
-
-abbrev pub fullService : ℕ → ℕ → ℕ → DvbLocatorService
-fullService ts on sv = Full (inlineReserved .widest) ts on sv

@@ -1,9 +1,10 @@
-// The DVB binary locator (ETSI TS 102 323, 7.3.2.3.3, Table 31): what it holds, how long its parts are, and how one is
-// made; in a module each, what reading and writing answer.
+// The DVB binary locator (ETSI TS 102 323, 7.3.2.3.3, Table 31): what it holds, how many bytes each of its fields takes,
+// and how one is made; in a module each, what reading and writing answer.
 ghost use mathlib.Core.Path.{_≡_};
 ghost use Prim.Native.Nat.{_+_, _≤_};
 ghost use Rattle.locator.specs.Syntax.{inlineLength, idLength, componentLength, windowLength};
-ghost use Rattle.locator.specs.Syntax.{newLocator, fullService, serviceLength, identifierLength, windowsLength, locatorLength};
+ghost use Rattle.locator.specs.Syntax.{serviceLength, identifierLength, windowsLength, locatorLength};
+ghost use Rattle.locator.specs.Syntax.{inlineService, fullService, locatorOf, newLocator};
 use field::Field;
 
 pub mod reading;
@@ -53,6 +54,23 @@ pub struct DvbBinaryLocator {
 }
 
 impl DvbLocatorService {
+    // A service by its three ids, with the two bits that stand beside them: what a reader makes.
+    pub fn with_reserved(
+        reserved: u16,
+        stream: u16,
+        network: u16,
+        service: u16,
+    ) -> DvbLocatorService
+        ensures { λ r. ⌜ r ≡ inlineService reserved stream network service ⌝ }
+    {
+        DvbLocatorService::Full {
+            reserved_inline_service: reserved,
+            transport_stream_id: stream,
+            original_network_id: network,
+            service_id: service,
+        }
+    }
+
     // A service by its three ids; the two bits beside them are ones.
     pub fn full(
         transport_stream_id: u16,
@@ -61,12 +79,12 @@ impl DvbLocatorService {
     ) -> DvbLocatorService
         ensures { λ r. ⌜ r ≡ fullService «transport_stream_id» «original_network_id» «service_id» ⌝ }
     {
-        DvbLocatorService::Full {
-            reserved_inline_service: Field::INLINE_RESERVED.widest as u16,
+        DvbLocatorService::with_reserved(
+            Field::INLINE_RESERVED.widest as u16,
             transport_stream_id,
             original_network_id,
             service_id,
-        }
+        )
     }
 
     fn length(self) -> usize
@@ -105,8 +123,8 @@ impl DvbLocatorWindows {
 }
 
 impl DvbBinaryLocator {
-    // The lengths of a locator's parts in bytes: the head, a service by either way, the two times, an identifier's id
-    // and component, the windows.
+    // How many bytes each takes: the head, a service by either way, the two times, an identifier's id and component, the
+    // windows.
     pub const HEAD: usize = 2;
 
     pub const TRIPLET: usize = 1;
@@ -128,6 +146,34 @@ impl DvbBinaryLocator {
         + DvbBinaryLocator::ID
         + DvbBinaryLocator::COMPONENT;
 
+    // The most bytes that are written: of a record with windows beside an identifier, against the rule.
+    pub const LONGEST_WRITTEN: usize = DvbBinaryLocator::LONGEST + DvbBinaryLocator::WINDOWS;
+
+    // A locator of all its fields, the reserved bit among them: what a reader makes.
+    pub fn with_reserved(
+        reliability: bool,
+        reserved: u16,
+        date: u16,
+        service: DvbLocatorService,
+        start: u16,
+        lasting: u16,
+        identifier: DvbLocatorIdentifier,
+        windows: DvbLocatorWindows,
+    ) -> DvbBinaryLocator
+        ensures { λ r. ⌜ r ≡ locatorOf reliability reserved date service start lasting identifier windows ⌝ }
+    {
+        DvbBinaryLocator {
+            scheduled_time_reliability: reliability,
+            reserved,
+            start_date: date,
+            service,
+            start_time: start,
+            duration: lasting,
+            identifier,
+            windows,
+        }
+    }
+
     // A locator whose reserved bit is a one.
     pub fn new(
         scheduled_time_reliability: bool,
@@ -140,16 +186,16 @@ impl DvbBinaryLocator {
     ) -> DvbBinaryLocator
         ensures { λ r. ⌜ r ≡ newLocator «scheduled_time_reliability» «start_date» service «start_time» duration identifier windows ⌝ }
     {
-        DvbBinaryLocator {
+        DvbBinaryLocator::with_reserved(
             scheduled_time_reliability,
-            reserved: Field::LOCATOR_RESERVED.widest as u16,
+            Field::LOCATOR_RESERVED.widest as u16,
             start_date,
             service,
             start_time,
             duration,
             identifier,
             windows,
-        }
+        )
     }
 
     // How many bytes it has.

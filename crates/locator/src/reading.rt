@@ -2,6 +2,12 @@
 use crate::DvbBinaryLocator;
 use wire::verdict::Refusal;
 
+// How many bytes it takes, or the refusal.
+pub enum LocatorSize {
+    Used(usize),
+    Refused(Refusal),
+}
+
 // The locator and how many bytes it took, or the refusal.
 pub enum LocatorRead {
     Got {

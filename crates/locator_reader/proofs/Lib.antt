@@ -1,2 +1,2 @@
--- That the public contract leaves one outcome.
+-- That each public contract leaves one outcome.
 pub mod Unique

@@ -1,16 +1,17 @@
-// Reading a locator at the start of a slice.
+// Reading a locator at the start of a slice: how many bytes it takes, and what stands there.
 ghost use mathlib.Core.Path.{_≡_};
 ghost use Prim.Native.Nat.{_+_, _<_, _≤_};
 ghost use lib.ListN.{length};
 ghost use Rattle.wire.specs.Numbers.{be16};
 ghost use Rattle.locator.specs.Syntax.{headLength, inlineLength, timesLength, idLength, componentLength};
-ghost use Rattle.locator.specs.Reading.{reliable, inline, windowsDue, serviceEnd, tailLength, serviceAt, identifierAt, windowsAt, partsAt, cut, readLocator};
+ghost use Rattle.locator.specs.Reading.{reliable, inline, windowsDue, serviceEnd, tailLength, serviceAt, identifierAt, windowsAt, headedAt, cutOff, locatorSize, readLocator};
 use field::Field;
 use locator::DvbBinaryLocator;
 use locator::DvbLocatorIdentifier;
 use locator::DvbLocatorService;
 use locator::DvbLocatorWindows;
 use locator::reading::LocatorRead;
+use locator::reading::LocatorSize;
 use wire::verdict::Refusal;
 
 fn reliable(head: u16) -> bool
@@ -73,12 +74,12 @@ fn service_at(s: &[u8], head: u16) -> DvbLocatorService
     ensures { λ r. ⌜ r ≡ serviceAt (now (s .entry)) head ⌝ }
 {
     if inline(head) {
-        DvbLocatorService::Full {
-            reserved_inline_service: Field::INLINE_RESERVED.low(head),
-            transport_stream_id: be16_at(s, 2),
-            original_network_id: be16_at(s, 4),
-            service_id: be16_at(s, 6),
-        }
+        DvbLocatorService::with_reserved(
+            Field::INLINE_RESERVED.low(head),
+            be16_at(s, 2),
+            be16_at(s, 4),
+            be16_at(s, 6),
+        )
     } else {
         DvbLocatorService::Triplet {
             dvb_service_triplet_id: Field::TRIPLET_ID.low(be16_at(s, 1)),
@@ -124,54 +125,67 @@ fn windows_at(s: &[u8], head: u16, at: usize) -> DvbLocatorWindows
 // The locator of enough bytes, whose times start at `at`.
 fn locator_at(s: &[u8], head: u16, at: usize) -> DvbBinaryLocator
     requires { ⌜ (serviceEnd head ≤ at) × (at + timesLength + tailLength head ≤ length (now s)) × (at ≤ headLength + inlineLength) ⌝ }
-    ensures { λ r. ⌜ r ≡ partsAt (now (s .entry)) head at ⌝ }
+    ensures { λ r. ⌜ r ≡ headedAt (now (s .entry)) head at ⌝ }
 {
-    DvbBinaryLocator {
-        scheduled_time_reliability: reliable(head),
-        reserved: Field::LOCATOR_RESERVED.low(head / 0x800),
-        start_date: Field::START_DATE.low(head / 4),
-        service: service_at(s, head),
-        start_time: be16_at(s, at),
-        duration: be16_at(s, at + 2),
-        identifier: identifier_at(s, head, at + DvbBinaryLocator::TIMES),
-        windows: windows_at(s, head, at + DvbBinaryLocator::TIMES),
-    }
+    DvbBinaryLocator::with_reserved(
+        reliable(head),
+        Field::LOCATOR_RESERVED.low(head / 0x800),
+        Field::START_DATE.low(head / 4),
+        service_at(s, head),
+        be16_at(s, at),
+        be16_at(s, at + 2),
+        identifier_at(s, head, at + DvbBinaryLocator::TIMES),
+        windows_at(s, head, at + DvbBinaryLocator::TIMES),
+    )
 }
 
 // Refusal 10: cut off.
-fn cut(need: usize, have: usize) -> LocatorRead
-    ensures { λ r. ⌜ r ≡ cut need have ⌝ }
+fn cut(need: usize, have: usize) -> Refusal
+    ensures { λ r. ⌜ r ≡ cutOff need have ⌝ }
 {
-    LocatorRead::Refused(Refusal {
+    Refusal {
         number: Refusal::LOCATOR_CUT,
         first: need,
         second: have,
-    })
+    }
 }
 
-// Reads the locator that the slice starts with. What follows it is not looked at.
-pub fn read_locator(s: &[u8]) -> LocatorRead
-    ensures { λ r. ⌜ r ≡ readLocator (now (s .entry)) ⌝ }
+// How many bytes the locator takes that the slice starts with. What follows it is not looked at.
+pub fn locator_size(s: &[u8]) -> LocatorSize
+    ensures { λ r. ⌜ r ≡ locatorSize (now (s .entry)) ⌝ }
 {
     let have = s.len();
     if have < DvbBinaryLocator::HEAD {
-        return cut(DvbBinaryLocator::HEAD, have);
+        return LocatorSize::Refused(cut(DvbBinaryLocator::HEAD, have));
     }
     let head = be16_at(s, 0);
     let at = service_end(head);
     if have < at {
-        return cut(at, have);
+        return LocatorSize::Refused(cut(at, have));
     }
     let tail = at + DvbBinaryLocator::TIMES;
     if have < tail {
-        return cut(tail, have);
+        return LocatorSize::Refused(cut(tail, have));
     }
     let used = tail + tail_length(head);
     if have < used {
-        return cut(used, have);
+        return LocatorSize::Refused(cut(used, have));
     }
-    LocatorRead::Got {
-        locator: locator_at(s, head, at),
-        used,
+    LocatorSize::Used(used)
+}
+
+// Reads the locator that the slice starts with.
+pub fn read_locator(s: &[u8]) -> LocatorRead
+    ensures { λ r. ⌜ r ≡ readLocator (now (s .entry)) ⌝ }
+{
+    match locator_size(s) {
+        LocatorSize::Refused(refusal) => LocatorRead::Refused(refusal),
+        LocatorSize::Used(used) => {
+            let head = be16_at(s, 0);
+            LocatorRead::Got {
+                locator: locator_at(s, head, service_end(head)),
+                used,
+            }
+        }
     }
 }

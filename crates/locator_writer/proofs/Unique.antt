@@ -2,18 +2,8 @@
 -- Assumes nothing.
 use mathlib.Core.Path.{refl}
 use Rattle.wire.proofs.One.{One, both}
-use Rattle.locator_writer.proofs.checks.check_fields.Kinds as check-fields-kinds
-use Rattle.locator_writer.proofs.checks.check_fields.Reads as check-fields-reads
-use Rattle.locator_writer.proofs.checks.check_windows.Kinds as check-windows-kinds
-use Rattle.locator_writer.proofs.checks.check_windows.Reads as check-windows-reads
-use Rattle.locator_writer.proofs.to_bytes.Kinds as to-bytes-kinds
-use Rattle.locator_writer.proofs.to_bytes.Reads as to-bytes-reads
+use Rattle.locator_writer.proofs.locator_bytes.Kinds as locator-bytes-kinds
+use Rattle.locator_writer.proofs.locator_bytes.Reads as locator-bytes-reads
 
-pub check-fields-one : One check-fields-kinds.ps check-fields-kinds.r check-fields-reads.Asked check-fields-reads.Learnt
-check-fields-one = record { total = λ κs a. tt; one = λ κs a x y v w p q. (both p q, refl) }
-
-pub check-windows-one : One check-windows-kinds.ps check-windows-kinds.r check-windows-reads.Asked check-windows-reads.Learnt
-check-windows-one = record { total = λ κs a. tt; one = λ κs a x y v w p q. (both p q, refl) }
-
-pub to-bytes-one : One to-bytes-kinds.ps to-bytes-kinds.r to-bytes-reads.Asked to-bytes-reads.Learnt
-to-bytes-one = record { total = λ κs a. tt; one = λ κs a x y v w p q. (both p q, refl) }
+pub locator-bytes-one : One locator-bytes-kinds.ps locator-bytes-kinds.r locator-bytes-reads.Asked locator-bytes-reads.Learnt
+locator-bytes-one = record { total = λ κs a. tt; one = λ κs a x y v w p q. (both p q, refl) }

@@ -1,42 +1,26 @@
-// Writing a locator, by value: its bytes in an array and their number.
+// Writing a locator, by value: its bytes in an array and their number. Nothing is checked: of a number that is too wide for
+// its field the lowest bits are written, and windows wherever they are present.
 ghost use mathlib.Core.Path.{_≡_};
 ghost use Prim.Native.Nat.{_+_, _≤_};
 ghost use lib.ListN.{length};
 ghost use Rattle.wire.specs.Numbers.{bytes16};
 ghost use Rattle.wire.specs.Stores.{Wrote};
-ghost use Rattle.locator.specs.Syntax.{typeOf, isInline, lastBits, headOf, serviceBytes, identifierBytes, windowsBytes, locatorBytes, locatorLength, ServiceFits, WindowsFit, Narrow};
-ghost use Rattle.locator.specs.Writing.{toBytes};
-use crate::checks::check_fields;
-use crate::checks::check_windows;
+ghost use Rattle.locator.specs.Syntax.{typeOf, isInline, lastBits, headOf, serviceBytes, identifierBytes, windowsBytes, locatorBytes, locatorLength};
+ghost use Rattle.locator.specs.Writing.{narrowedService, narrowedWindows, narrowed, writtenLocator};
+use field::Field;
 use locator::DvbBinaryLocator;
 use locator::DvbLocatorIdentifier;
 use locator::DvbLocatorService;
 use locator::DvbLocatorWindows;
-use locator::writing::LocatorWritten;
-use wire::verdict::Verdict;
-use wire::verdict::first_of;
+use locator::writing::LocatorBytes;
 
-pub mod checks;
-
-// Checks the locator, its fields before its windows, and writes it if it is fine.
-pub fn to_bytes(locator: DvbBinaryLocator) -> LocatorWritten
-    ensures { λ r. ⌜ r ≡ toBytes locator ⌝ }
+// The bytes of any record, zeros behind them, and how many they are.
+pub fn locator_bytes(locator: DvbBinaryLocator) -> LocatorBytes
+    ensures { λ r. ⌜ r ≡ writtenLocator locator ⌝ }
 {
-    let mut bytes = [0u8; DvbBinaryLocator::LONGEST];
-    let verdict = first_of(check_fields(locator), check_windows(locator));
-    let Verdict::Fine = verdict else {
-        return LocatorWritten {
-            verdict,
-            bytes,
-            length: 0,
-        };
-    };
+    let mut bytes = [0u8; DvbBinaryLocator::LONGEST_WRITTEN];
     let length = put_locator(&mut bytes, locator);
-    LocatorWritten {
-        verdict: Verdict::Fine,
-        bytes,
-        length,
-    }
+    LocatorBytes { bytes, length }
 }
 
 fn identifier_type(identifier: DvbLocatorIdentifier) -> u16
@@ -51,7 +35,7 @@ fn identifier_type(identifier: DvbLocatorIdentifier) -> u16
 }
 
 fn inline_service(service: DvbLocatorService) -> bool
-    ensures { λ r. ⌜ r ≡ isInline service ⌝ }
+    ensures { λ r. ⌜ r ≡ isInline (narrowedService service) ⌝ }
 {
     match service {
         DvbLocatorService::Triplet { .. } => false,
@@ -61,36 +45,34 @@ fn inline_service(service: DvbLocatorService) -> bool
 
 // The two bits behind the date.
 fn last_bits(service: DvbLocatorService) -> u16
-    requires { ⌜ ServiceFits service ⌝ }
-    ensures { λ r. ⌜ (r ≡ lastBits service) × (r ≤ 3) ⌝ }
+    ensures { λ r. ⌜ (r ≡ lastBits (narrowedService service)) × (r ≤ 3) ⌝ }
 {
     match service {
         DvbLocatorService::Triplet {
             dvb_service_triplet_id,
-        } => dvb_service_triplet_id / 256,
+        } => Field::TRIPLET_ID.low(dvb_service_triplet_id) / 256,
         DvbLocatorService::Full {
             reserved_inline_service,
             ..
-        } => reserved_inline_service,
+        } => Field::INLINE_RESERVED.low(reserved_inline_service),
     }
 }
 
 // The first 16 bits.
 fn head(locator: DvbBinaryLocator) -> u16
-    requires { ⌜ Narrow locator ⌝ }
-    ensures { λ r. ⌜ r ≡ headOf locator ⌝ }
+    ensures { λ r. ⌜ r ≡ headOf (narrowed locator) ⌝ }
 {
     let service = locator.service;
     let identifier = locator.identifier;
     identifier_type(identifier) * 0x4000
         + wire::flag(locator.scheduled_time_reliability) as u16 * 0x2000
         + wire::flag(inline_service(service)) as u16 * 0x1000
-        + locator.reserved * 0x800
-        + locator.start_date * 4
+        + Field::LOCATOR_RESERVED.low(locator.reserved) * 0x800
+        + Field::START_DATE.low(locator.start_date) * 4
         + last_bits(service)
 }
 
-// Each of these writes a part from a place on, for which the caller has room, and answers the place behind it.
+// Each of these writes its bytes from a place on, for which the caller has room, and answers the place behind them.
 fn put16(b: &mut [u8], at: usize, x: u16) -> usize
     requires { ⌜ at + 2 ≤ length (now b) ⌝ }
     ensures { λ r. ⌜ Wrote (now (b .entry)) at (bytes16 x) (now (b .exit)) r ⌝ }
@@ -101,8 +83,8 @@ fn put16(b: &mut [u8], at: usize, x: u16) -> usize
 }
 
 fn put_service(b: &mut [u8], at: usize, service: DvbLocatorService) -> usize
-    requires { ⌜ at + length (serviceBytes service) ≤ length (now b) ⌝ }
-    ensures { λ r. ⌜ Wrote (now (b .entry)) at (serviceBytes service) (now (b .exit)) r ⌝ }
+    requires { ⌜ at + length (serviceBytes (narrowedService service)) ≤ length (now b) ⌝ }
+    ensures { λ r. ⌜ Wrote (now (b .entry)) at (serviceBytes (narrowedService service)) (now (b .exit)) r ⌝ }
 {
     match service {
         DvbLocatorService::Triplet {
@@ -141,8 +123,8 @@ fn put_identifier(b: &mut [u8], at: usize, identifier: DvbLocatorIdentifier) -> 
 }
 
 fn put_windows(b: &mut [u8], at: usize, windows: DvbLocatorWindows) -> usize
-    requires { ⌜ WindowsFit windows × (at + length (windowsBytes windows) ≤ length (now b)) ⌝ }
-    ensures { λ r. ⌜ Wrote (now (b .entry)) at (windowsBytes windows) (now (b .exit)) r ⌝ }
+    requires { ⌜ at + length (windowsBytes (narrowedWindows windows)) ≤ length (now b) ⌝ }
+    ensures { λ r. ⌜ Wrote (now (b .entry)) at (windowsBytes (narrowedWindows windows)) (now (b .exit)) r ⌝ }
 {
     match windows {
         DvbLocatorWindows::Absent => at,
@@ -150,15 +132,17 @@ fn put_windows(b: &mut [u8], at: usize, windows: DvbLocatorWindows) -> usize
             early_start_window,
             late_end_window,
         } => {
-            b[at] = (early_start_window * 32 + late_end_window) as u8;
+            let early = Field::EARLY_START.low(early_start_window);
+            let late = Field::LATE_END.low(late_end_window);
+            b[at] = (early * 32 + late) as u8;
             at + 1
         }
     }
 }
 
 fn put_locator(b: &mut [u8], locator: DvbBinaryLocator) -> usize
-    requires { ⌜ Narrow locator × (locatorLength locator ≤ length (now b)) ⌝ }
-    ensures { λ r. ⌜ Wrote (now (b .entry)) 0 (locatorBytes locator) (now (b .exit)) r ⌝ }
+    requires { ⌜ locatorLength (narrowed locator) ≤ length (now b) ⌝ }
+    ensures { λ r. ⌜ Wrote (now (b .entry)) 0 (locatorBytes (narrowed locator)) (now (b .exit)) r ⌝ }
 {
     let service = locator.service;
     let identifier = locator.identifier;

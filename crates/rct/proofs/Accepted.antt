@@ -10,14 +10,18 @@ use lib.Seq.{take-at}
 use Rattle.wire.specs.Lists.{Bytes, part}
 use Rattle.wire.specs.Lengths.{longest, lengthBytes, blockBytes, blockAt, blockEnd}
 use Rattle.wire.specs.declared.verdict.Verdict.the-variants.{Fine}
-use Rattle.wire.proofs.Parts.{bytes-at, length-part}
+use Rattle.wire.proofs.Lists.{bytes-at, length-part}
 use Rattle.wire.proofs.Blocks.{block-length, BlockRead, block-back, block-rebuild, block-fits}
+use Rattle.wire.specs.Refusals.{loopCut, loopTooLong, sectionSlack}
 use Rattle.wire.proofs.Verdicts.{then-fine, fine-then}
-use Rattle.frame.specs.Frame.{uncounted, crcLength, declared, totalOf, payloadEnd, opened}
+use Rattle.section_header.specs.Syntax.{headerBytes}
+use Rattle.frame.specs.Syntax.{uncounted, crcLength}
+use Rattle.frame.specs.Reading.{declared, totalOf, payloadEnd, opened}
+use Rattle.frame.specs.declared.Demands.{Demands}
 use Rattle.frame.proofs.Opening.{Opened, opened-fine, fine-opened}
 use Rattle.rct.specs.Syntax.{headLength, shortest, rct, Section, headBytes, linksBytes, payload, sectionLength, fullLength, sectionBytes, Fits}
-use Rattle.rct.specs.Reading.{countAt, after, linksAt, loopPlace, sectionAt, linksVerdict, reading}
-use Rattle.rct.proofs.Head.{head-rebuild, header-fits, HeadRead, head-back}
+use Rattle.rct.specs.Reading.{countAt, after, linksAt, loopPlace, sectionAt, linksVerdict, payloadVerdict, reading}
+use Rattle.rct.proofs.Head.{head-rebuild, rct-header-fits, HeadRead, head-back}
 use Rattle.rct.proofs.Links.{length-linksAt, Walked, walked, LinksRead, links-back}
 use Rattle.wire.proofs.Blocks.{last-pass, last-passed}
 
@@ -28,7 +32,7 @@ unfolding payload
 length-payload s = omega (arith, length-append (linksBytes (s .links)) (blockBytes (s .loop)), block-length (s .loop))
 
 pub length-head : (s : Section) → length (headBytes (s .header) (sectionLength s) (length (s .links))) ≡ headLength
-unfolding headBytes lengthBytes
+unfolding headBytes headerBytes lengthBytes
 length-head s = refl
 
 pub length-section : (s : Section) → length (sectionBytes s) + crcLength ≡ fullLength s
@@ -46,27 +50,27 @@ shortest-is s e f = omega (arith, length-payload s, ap (λ l. length (linksBytes
 
 -- ---- rebuild
 
-pub record Accepted (most : ℕ) (xs : List ℕ) : Type 0 where
-  pub frame : Opened rct most xs
+pub record Accepted (d : Demands) (xs : List ℕ) : Type 0 where
+  pub frame : Opened rct d xs
   pub links-fine : linksVerdict (countAt xs) xs (payloadEnd xs) headLength ≡ Fine
   pub walked-links : Walked (countAt xs) xs (payloadEnd xs) headLength
   pub loop-end : blockEnd xs (loopPlace xs) ≡ payloadEnd xs
 
-module _ (most : ℕ) (xs : List ℕ) (b : Bytes xs) where
-  pub accepted : reading most xs ≡ Fine → Accepted most xs
-  unfolding reading
+module _ (d : Demands) (xs : List ℕ) (b : Bytes xs) where
+  pub accepted : reading d xs ≡ Fine → Accepted d xs
+  unfolding reading payloadVerdict
   accepted v =
-      let one = then-fine (opened rct most xs) _ v in
+      let one = then-fine (opened rct d xs) _ v in
       let two = then-fine (linksVerdict (countAt xs) xs (payloadEnd xs) headLength) _ (one .1) in
-      let o = opened-fine rct most xs (one .0) in
+      let o = opened-fine rct d xs (one .0) in
       record {
         frame = o;
         links-fine = two .0;
         walked-links = walked (countAt xs) xs (payloadEnd xs) headLength b (omega (arith, o .within)) (omega (arith, o .large)) (two .0);
-        loop-end = last-passed 17 18 19 xs (payloadEnd xs) (loopPlace xs) (two .1);
+        loop-end = last-passed loopCut loopTooLong sectionSlack xs (payloadEnd xs) (loopPlace xs) (two .1);
       }
 
-  module _ (a : Accepted most xs) where
+  module _ (a : Accepted d xs) where
     pub payload-rebuild : take headLength xs ++ payload (sectionAt xs) ≡ take (payloadEnd xs) xs
     unfolding payload sectionAt
     payload-rebuild =
@@ -80,19 +84,19 @@ module _ (most : ℕ) (xs : List ℕ) (b : Bytes xs) where
     length-is = omega (arith, simp (length-append, length-take) at (ap length payload-rebuild), a .frame .large, a .frame .within)
 
   -- the records that were read are written as the bytes up to the CRC
-  pub rebuild : reading most xs ≡ Fine → sectionBytes (sectionAt xs) ≡ take (payloadEnd xs) xs
+  pub rebuild : reading d xs ≡ Fine → sectionBytes (sectionAt xs) ≡ take (payloadEnd xs) xs
   unfolding sectionBytes sectionAt
   rebuild v =
       let a = accepted v in
       rw (length-is a, length-linksAt, head-rebuild xs b (a .frame .id-is) (omega (arith, a .frame .large, a .frame .within))) (payload-rebuild a)
 
   -- and they fit
-  pub accepted-fits : reading most xs ≡ Fine → Fits most (sectionAt xs)
+  pub accepted-fits : reading d xs ≡ Fine → Fits d (sectionAt xs)
   unfolding sectionAt
   accepted-fits v =
       let a = accepted v in
       record {
-        header = header-fits xs b;
+        header = rct-header-fits xs b;
         count = rw length-linksAt (bytes-at xs 10 b);
         links = a .walked-links .fit;
         loop = block-fits xs (loopPlace xs) b (omega (arith, a .loop-end, a .frame .within));
@@ -101,21 +105,21 @@ module _ (most : ℕ) (xs : List ℕ) (b : Bytes xs) where
 
 -- ---- read back
 
-pub record ReadBack (most : ℕ) (s : Section) (xs : List ℕ) : Type 0 where
-  pub passed : reading most xs ≡ Fine
+pub record ReadBack (d : Demands) (s : Section) (xs : List ℕ) : Type 0 where
+  pub passed : reading d xs ≡ Fine
   pub same : sectionAt xs ≡ s
   pub total : totalOf xs ≡ fullLength s
   pub bytes : take (payloadEnd xs) xs ≡ sectionBytes s
 
-read-from : (most : ℕ) (s : Section) (xs tail : List ℕ) → Fits most s → crcLength ≤ length tail
-    → HeadRead (s .header) (sectionLength s) (length (s .links)) xs (payload s ++ tail) → (reading most xs ≡ Fine) × (sectionAt xs ≡ s)
-unfolding reading sectionAt sectionLength payload
-read-from most s xs tail f t hd = (passed, λ i. record { header = hd .header i; links = linksOk i; loop = loop .same i })
+read-from : (d : Demands) (s : Section) (xs tail : List ℕ) → Fits d s → crcLength ≤ length tail
+    → HeadRead (s .header) (sectionLength s) (length (s .links)) xs (payload s ++ tail) → (reading d xs ≡ Fine) × (sectionAt xs ≡ s)
+unfolding reading payloadVerdict sectionAt sectionLength payload
+read-from d s xs tail f t hd = (passed, λ i. record { header = hd .header i; links = linksOk i; loop = loop .same i })
   where
     size : length xs ≡ headLength + length (payload s) + length tail
     size = omega (arith, hd .size, length-append (payload s) tail)
 
-    frame : Opened rct most xs
+    frame : Opened rct d xs
     frame = record { id-is = hd .id-is; large = omega (arith, hd .len-is, length-payload s); within = omega (arith, hd .len-is, size); limited = rw (hd .len-is) (f .fits) }
 
     links : LinksRead (s .links) xs (payloadEnd xs) headLength (blockBytes (s .loop) ++ tail)
@@ -131,17 +135,17 @@ read-from most s xs tail f t hd = (passed, λ i. record { header = hd .header i;
     end : blockEnd xs (loopPlace xs) ≡ payloadEnd xs
     end = omega (arith, loop .len, place, links .place, hd .len-is, length-payload s)
 
-    passed : reading most xs ≡ Fine
+    passed : reading d xs ≡ Fine
     passed =
-        fine-then _ _ (fine-opened rct most xs frame)
-        (fine-then _ _ (ap (λ n. linksVerdict n xs (payloadEnd xs) headLength) (hd .count-is) ∙ links .passed) (last-pass 17 18 19 xs (payloadEnd xs) (loopPlace xs) end))
+        fine-then _ _ (fine-opened rct d xs frame)
+        (fine-then _ _ (ap (λ n. linksVerdict n xs (payloadEnd xs) headLength) (hd .count-is) ∙ links .passed) (last-pass loopCut loopTooLong sectionSlack xs (payloadEnd xs) (loopPlace xs) end))
 
     linksOk : linksAt (countAt xs) xs headLength ≡ s .links
     linksOk = ap (λ n. linksAt n xs headLength) (hd .count-is) ∙ links .same
 
-pub read-back : (most : ℕ) (s : Section) (tail : List ℕ) → most ≤ longest → Fits most s → crcLength ≤ length tail → ReadBack most s (sectionBytes s ++ tail)
+pub read-back : (d : Demands) (s : Section) (tail : List ℕ) → d .most ≤ longest → Fits d s → crcLength ≤ length tail → ReadBack d s (sectionBytes s ++ tail)
 unfolding sectionBytes
-read-back most s tail m f t =
+read-back d s tail m f t =
     record {
       passed = r .0;
       same = r .1;
@@ -152,45 +156,45 @@ read-back most s tail m f t =
     hd : HeadRead (s .header) (sectionLength s) (length (s .links)) (sectionBytes s ++ tail) (payload s ++ tail)
     hd = rw append-assoc (head-back (s .header) (sectionLength s) (length (s .links)) (payload s ++ tail) (f .header) (omega (arith, f .fits)))
 
-    r : (reading most (sectionBytes s ++ tail) ≡ Fine) × (sectionAt (sectionBytes s ++ tail) ≡ s)
-    r = read-from most s (sectionBytes s ++ tail) tail f t hd
+    r : (reading d (sectionBytes s ++ tail) ≡ Fine) × (sectionAt (sectionBytes s ++ tail) ≡ s)
+    r = read-from d s (sectionBytes s ++ tail) tail f t hd
 
 -- ---- accepted exactly
 
 -- the bytes of a section that fits, then four for its CRC, then whatever follows
-pub record Written (most : ℕ) (xs : List ℕ) : Type 0 where
+pub record Written (d : Demands) (xs : List ℕ) : Type 0 where
   pub section : Section
-  pub fits : Fits most section
+  pub fits : Fits d section
   pub crc : List ℕ
   pub four : length crc ≡ crcLength
   pub rest : List ℕ
   pub is : xs ≡ sectionBytes section ++ (crc ++ rest)
 
-pub accepted-iff : (most : ℕ) (xs : List ℕ) → most ≤ longest → Bytes xs → (reading most xs ≡ Fine) ↔ Written most xs
-accepted-iff most xs m b = (to, from)
+pub accepted-iff : (d : Demands) (xs : List ℕ) → d .most ≤ longest → Bytes xs → (reading d xs ≡ Fine) ↔ Written d xs
+accepted-iff d xs m b = (to, from)
   where
-    to : reading most xs ≡ Fine → Written most xs
+    to : reading d xs ≡ Fine → Written d xs
     to v =
-        let a = accepted most xs b v in
+        let a = accepted d xs b v in
         let e : ℕ = payloadEnd xs in
         record {
           section = sectionAt xs;
-          fits = accepted-fits most xs b v;
+          fits = accepted-fits d xs b v;
           crc = part xs e crcLength;
           four = length-part xs e crcLength (omega (arith, a .frame .large, a .frame .within));
           rest = drop crcLength (drop e xs);
-          is = rw (rebuild most xs b v) (sym (ap (λ r. take e xs ++ r) (take-append-drop crcLength (drop e xs)) ∙ take-append-drop e xs));
+          is = rw (rebuild d xs b v) (sym (ap (λ r. take e xs ++ r) (take-append-drop crcLength (drop e xs)) ∙ take-append-drop e xs));
         }
 
-    from : Written most xs → reading most xs ≡ Fine
-    from w = rw (w .is) (read-back most (w .section) (w .crc ++ w .rest) m (w .fits) (simp length-append (omega (arith, w .four))) .passed)
+    from : Written d xs → reading d xs ≡ Fine
+    from w = rw (w .is) (read-back d (w .section) (w .crc ++ w .rest) m (w .fits) (simp length-append (omega (arith, w .four))) .passed)
 
 -- no section's bytes begin with another's, whatever follows either
-pub one-section : (most : ℕ) (s t : Section) (a b : List ℕ) → most ≤ longest → Fits most s → Fits most t → sectionBytes s ++ a ≡ sectionBytes t ++ b → s ≡ t
-one-section most s t a b m f g e = sym (back s a f) ∙ ap (λ l. sectionAt (l ++ crc)) e ∙ back t b g
+pub one-section : (d : Demands) (s t : Section) (a b : List ℕ) → d .most ≤ longest → Fits d s → Fits d t → sectionBytes s ++ a ≡ sectionBytes t ++ b → s ≡ t
+one-section d s t a b m f g e = sym (back s a f) ∙ ap (λ l. sectionAt (l ++ crc)) e ∙ back t b g
   where
     crc : List ℕ
     crc = replicate crcLength 0
 
-    back : (r : Section) (c : List ℕ) → Fits most r → sectionAt ((sectionBytes r ++ c) ++ crc) ≡ r
-    back r c h = rw append-assoc (read-back most r (c ++ crc) m h (simp (length-append, length-replicate) (omega arith)) .same)
+    back : (r : Section) (c : List ℕ) → Fits d r → sectionAt ((sectionBytes r ++ c) ++ crc) ≡ r
+    back r c h = rw append-assoc (read-back d r (c ++ crc) m h (simp (length-append, length-replicate) (omega arith)) .same)

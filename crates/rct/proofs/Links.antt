@@ -9,16 +9,16 @@ use lib.ListN.{length, take, drop, getD, length-append}
 use Rattle.wire.specs.Lists.{Bytes}
 use Rattle.wire.specs.Lengths.{lengthAt, besideAt, Block, BlockFits, blockBytes, blockAt, blockEnd}
 use Rattle.wire.specs.declared.verdict.Verdict.the-variants.{Fine}
-use Rattle.wire.proofs.Parts.{bytes-part, length-part}
+use Rattle.wire.proofs.Lists.{bytes-part, length-part}
 use Rattle.wire.proofs.Blocks.{length-short, beside-narrow, block-length, BlockRead, block-back, block-rebuild}
-use Rattle.wire.proofs.Verdicts.{then-fine, fine-then}
+use Rattle.wire.specs.Verdict.{_▷_}
+use Rattle.wire.proofs.Verdicts.{then-fine, fine-then, go-on, then-assoc}
 use Rattle.link.specs.Syntax.{Link, linkBody, entryOf}
 use Rattle.link.specs.Reading.{bodyVerdict, linkAt}
 use Rattle.link.proofs.Laws.{link-back, link-rebuild, link-beside, link-bytes}
-use Rattle.wire.specs.Lengths.{blockVerdict}
 use Rattle.wire.proofs.Blocks.{block-passed, block-pass}
 use Rattle.rct.specs.Syntax.{linksBytes, EntryFits, LinksFit}
-use Rattle.rct.specs.Reading.{bodyIn, linkIn, after, linksAt, linksVerdict}
+use Rattle.rct.specs.Reading.{bodyIn, linkIn, after, linksAt, entryRows, entryVerdict, linksVerdict}
 
 -- ---- one link
 
@@ -45,6 +45,34 @@ entry-read xs p b h v =
       size = n;
     }
 
+-- ---- the rows of an entry
+
+pub record EntryPassed (xs : List ℕ) (e p : ℕ) : Type 0 where
+  pub within : blockEnd xs p ≤ e
+  pub good : bodyVerdict (bodyIn xs p) ≡ Fine
+
+pub entry-passed : (xs : List ℕ) (e p : ℕ) → entryVerdict xs e p ≡ Fine → EntryPassed xs e p
+unfolding entryVerdict
+entry-passed xs e p v =
+    let two = then-fine (entryRows xs e p) _ v in
+    record { within = block-passed _ _ _ _ xs e p (two .0); good = two .1 }
+
+pub entry-pass : (xs : List ℕ) (e p : ℕ) → blockEnd xs p ≤ e → bodyVerdict (bodyIn xs p) ≡ Fine → entryVerdict xs e p ≡ Fine
+unfolding entryVerdict
+entry-pass xs e p h g = fine-then _ _ (block-pass _ _ _ _ xs e p h) g
+
+-- ---- a walk in two parts
+
+pub after-sum : (m n : ℕ) (xs : List ℕ) (p : ℕ) → after (m + n) xs p ≡ after n xs (after m xs p)
+after-sum zero n xs p = let z : 0 + n ≡ n = omega arith in rw z
+after-sum (suc m) n xs p = let s : suc m + n ≡ suc (m + n) = omega arith in rw s (after-sum m n xs (blockEnd xs p))
+
+pub links-sum : (m n : ℕ) (xs : List ℕ) (e p : ℕ) → linksVerdict (m + n) xs e p ≡ linksVerdict m xs e p ▷ linksVerdict n xs e (after m xs p)
+links-sum zero n xs e p = let z : 0 + n ≡ n = omega arith in rw z (sym (go-on Fine (linksVerdict n xs e p) refl))
+links-sum (suc m) n xs e p =
+    let s : suc m + n ≡ suc (m + n) = omega arith in
+    rw (s, links-sum m n xs e (blockEnd xs p)) (sym (then-assoc (entryVerdict xs e p) _ _))
+
 -- ---- links that are read
 
 pub length-linksAt : (n : ℕ) (xs : List ℕ) (p : ℕ) → length (linksAt n xs p) ≡ n
@@ -63,12 +91,11 @@ pub record Walked (n : ℕ) (xs : List ℕ) (e p : ℕ) : Type 0 where
 pub walked : (n : ℕ) (xs : List ℕ) (e p : ℕ) → Bytes xs → e ≤ length xs → p ≤ e → linksVerdict n xs e p ≡ Fine → Walked n xs e p
 walked zero xs e p b l h v = record { within = h; same = append-nil (take p xs); fit = tt }
 walked (suc n) xs e p b l h v =
-    let one = then-fine (blockVerdict 4 5 xs e p) _ v in
-    let two = then-fine (bodyVerdict (bodyIn xs p)) _ (one .1) in
-    let r : blockEnd xs p ≤ e = block-passed 4 5 xs e p (one .0) in
+    let one = then-fine (entryVerdict xs e p) _ v in
+    let k = entry-passed xs e p (one .0) in
     let r′ : blockEnd xs p ≤ length xs = omega arith in
-    let w = walked n xs e (blockEnd xs p) b l r (two .1) in
-    let x = entry-read xs p b r′ (two .0) in
+    let w = walked n xs e (blockEnd xs p) b l (k .within) (one .1) in
+    let x = entry-read xs p b r′ (k .good) in
     record {
       within = w .within;
       same =
@@ -87,14 +114,13 @@ pub record Found (n k : ℕ) (xs : List ℕ) (e p : ℕ) : Type 0 where
 pub found : (n k : ℕ) (xs : List ℕ) (e p : ℕ) → Bytes xs → e ≤ length xs → linksVerdict n xs e p ≡ Fine → k < n → Found n k xs e p
 found zero k xs e p b l v h = absurd (not-suc-le-zero h)
 found (suc n) zero xs e p b l v h =
-    let one = then-fine (blockVerdict 4 5 xs e p) _ v in
-    record { place = omega arith; link = λ d. refl; within = block-passed 4 5 xs e p (one .0); good = then-fine (bodyVerdict (bodyIn xs p)) _ (one .1) .0 }
+    let k = entry-passed xs e p (then-fine (entryVerdict xs e p) _ v .0) in
+    record { place = omega arith; link = λ d. refl; within = k .within; good = k .good }
 found (suc n) (suc k) xs e p b l v h =
-    let one = then-fine (blockVerdict 4 5 xs e p) _ v in
-    let two = then-fine (bodyVerdict (bodyIn xs p)) _ (one .1) in
-    let r : blockEnd xs p ≤ e = block-passed 4 5 xs e p (one .0) in
-    let x = entry-read xs p b (omega arith) (two .0) in
-    let i = found n k xs e (blockEnd xs p) b l (two .1) (le-of-suc-le-suc h) in
+    let one = then-fine (entryVerdict xs e p) _ v in
+    let w = entry-passed xs e p (one .0) in
+    let x = entry-read xs p b (omega arith) (w .good) in
+    let i = found n k xs e (blockEnd xs p) b l (one .1) (le-of-suc-le-suc h) in
     record {
       place = omega (arith, i .place, x .size, entry-length (linkIn xs p), length-append (blockBytes (entryOf (linkIn xs p))) (linksBytes (take k (linksAt n xs (blockEnd xs p)))));
       link = i .link;
@@ -124,8 +150,7 @@ links-back (l ∷ ls) xs e p post f d h =
       same = λ i. (ap (λ (b : Block). linkAt (b .beside) (b .body)) (r .same) ∙ k .1) i ∷ w .same i;
       past = w .past;
       passed =
-          fine-then _ _ (block-pass 4 5 xs e p (omega (arith, r .len)))
-          (fine-then _ _ (ap (λ (b : Block). bodyVerdict (b .body)) (r .same) ∙ k .0) (w .passed));
+          fine-then _ _ (entry-pass xs e p (omega (arith, r .len)) (ap (λ (b : Block). bodyVerdict (b .body)) (r .same) ∙ k .0)) (w .passed);
     }
 
 pub links-append : (a b : List Link) → linksBytes (a ++ b) ≡ linksBytes a ++ linksBytes b

@@ -1,22 +1,14 @@
 // The related content section: its header, and the numbers that its table states.
 ghost use mathlib.Core.Path.{_≡_};
-ghost use Rattle.rct.specs.Syntax.{headLength, limit, rct, newHeader};
-use field::Field;
+ghost use Rattle.rct.specs.Syntax.{headLength, rct, newRctHeader};
 use frame::Table;
-use wire::lengths::LengthField;
+use section_header::SectionHeader;
 use wire::verdict::Refusal;
 
-// The fields before the links, the section's length and the number of links apart.
+// The fields before the links, the section's length and the number of links apart. The section header's
+// table_id_extension is the service_id.
 pub struct RctHeader {
-    pub section_syntax_indicator: bool,
-    pub table_id_extension_flag: bool,
-    pub reserved_b1: u16,
-    pub service_id: u16,
-    pub reserved_b5: u16,
-    pub version_number: u16,
-    pub current_next_indicator: bool,
-    pub section_number: u8,
-    pub last_section_number: u8,
+    pub section: SectionHeader,
     pub year_offset: u16,
 }
 
@@ -26,13 +18,12 @@ impl RctHeader {
     // The smallest section_length: a section with no links and an empty loop.
     pub const SHORTEST: u8 = 14;
 
-    // The greatest section_length that is written, and that a checked reading takes.
-    pub const LIMIT: usize = LengthField::LONGEST;
+    // The places of year_offset and of the number of links, and the bytes before the first link.
+    pub const YEAR_AT: usize = SectionHeader::FRONT;
 
-    // The place of the number of links, and the bytes before the first link.
-    pub const COUNT_AT: usize = 10;
+    pub const COUNT_AT: usize = RctHeader::YEAR_AT + 2;
 
-    pub const HEAD: usize = 11;
+    pub const HEAD: usize = RctHeader::COUNT_AT + 1;
 
     // Another table's section is refused by its id.
     pub const TABLE: Table = Table {
@@ -46,12 +37,6 @@ impl RctHeader {
         ensures { λ r. ⌜ r ≡ rct ⌝ }
     {
         RctHeader::TABLE
-    }
-
-    pub fn limit() -> usize
-        ensures { λ r. ⌜ r ≡ limit ⌝ }
-    {
-        RctHeader::LIMIT
     }
 
     pub fn head() -> usize
@@ -70,18 +55,18 @@ impl RctHeader {
         last_section_number: u8,
         year_offset: u16,
     ) -> RctHeader
-        ensures { λ r. ⌜ r ≡ newHeader «table_id_extension_flag» «service_id» «version_number» «current_next_indicator» «section_number» «last_section_number» «year_offset» ⌝ }
+        ensures { λ r. ⌜ r ≡ newRctHeader «table_id_extension_flag» «service_id» «version_number» «current_next_indicator» «section_number» «last_section_number» «year_offset» ⌝ }
     {
-        RctHeader {
-            section_syntax_indicator: true,
+        let section = SectionHeader::new(
             table_id_extension_flag,
-            reserved_b1: Field::SECTION_RESERVED.widest as u16,
             service_id,
-            reserved_b5: Field::VERSION_RESERVED.widest as u16,
             version_number,
             current_next_indicator,
             section_number,
             last_section_number,
+        );
+        RctHeader {
+            section,
             year_offset,
         }
     }

@@ -9,17 +9,19 @@ use lib.Seq.{sets, length-sets, sets-eq, take-add, take-at}
 use Rattle.wire.specs.Lists.{part}
 use Rattle.wire.specs.Lengths.{blockBytes}
 use Rattle.wire.specs.Numbers.{bytes32}
-use Rattle.wire.proofs.Parts.{length-part}
+use Rattle.wire.proofs.Lists.{length-part}
 use Rattle.wire.proofs.Words.{length-bytes32}
 use Rattle.wire.proofs.Writing.{sets-before, sets-from, sets-take, sets-behind}
 use Rattle.crc.specs.Crc.{crcOf}
 use Rattle.link.specs.Syntax.{Link, entryOf}
-use Rattle.frame.specs.Frame.{crcLength, totalOf, payloadEnd}
 use Rattle.frame.proofs.Opening.{Opened}
+use Rattle.frame.specs.Syntax.{crcLength}
+use Rattle.frame.specs.Reading.{payloadEnd, totalOf}
+use Rattle.frame.specs.declared.Demands.{Demands}
 use Rattle.rct.specs.Syntax.{rct, Section, sectionLength, fullLength, sectionBytes, sealed}
 use Rattle.rct.proofs.Accepted.{length-section}
 use Rattle.rct_edit.specs.Edit.{filler, written, fresh}
-use Rattle.rct_edit.specs.Steps.{rehead}
+use Rattle.rct_edit.specs.Rehead.{rehead}
 use Rattle.rct_edit.proofs.Locality.{rehead-take, rehead-drop, rehead-length, Splice}
 
 -- the five steps on a buffer xs: the tail M moved to its new place, the link's bytes C written at p, the head's numbers, the CRC's bytes W, the fill F
@@ -79,7 +81,7 @@ module _ (xs : List ℕ) (p len count : ℕ) (C M W F : List ℕ) (y1 y2 y3 y4 y
 
 -- ---- an edit of the section in xs, between p and q
 
-module _ (most : ℕ) (xs : List ℕ) (o : Opened rct most xs) (s′ : Section) (l : Link) (p q : ℕ) (sp : Splice xs s′ l p q) where
+module _ (dm : Demands) (xs : List ℕ) (o : Opened rct dm xs) (s′ : Section) (l : Link) (p q : ℕ) (sp : Splice xs s′ l p q) where
   -- the bytes of the link, and what lies behind the old place, up to the CRC
   abbrev pub linkRun : List ℕ
   linkRun = blockBytes (entryOf l)

@@ -12,20 +12,21 @@ use Rattle.wire.specs.declared.verdict.Verdict.the-variants.{Fine, Refused}
 use Rattle.wire.specs.declared.verdict.Refusal.{Refusal}
 use Rattle.wire.proofs.Verdicts.{then-fine, fine-then, passed-ltb, passed-leb, pass-ltb, pass-leb}
 use Rattle.link.specs.Syntax.{Link, LinkFits, linkBody}
-use Rattle.frame.specs.Frame.{totalOf}
+use Rattle.frame.specs.Syntax.{limit}
+use Rattle.frame.specs.Reading.{checkedDemands, totalOf}
 use Rattle.rct.specs.declared.RctHeader.{RctHeader}
-use Rattle.rct.specs.Syntax.{limit, Section, sectionLength, fullLength, sealed, HeaderFits, Fits}
-use Rattle.rct.specs.Reading.{countAt, sectionAt, checked}
-use Rattle.rct.proofs.Checked.{length-sealed, Holds, holds-known, checked-holds, count-is}
-use Rattle.rct_edit.specs.Edit.{mostLinks, bare, put, grown, written, fresh, lengthRow, bodyRow, numberRow, countRow, roomVerdict, editVerdict, replaceVerdict, appendVerdict, makeVerdict, Outcome, done, replaced, appended, made}
-use Rattle.rct_edit.proofs.Records.{put-short, grown-short, put-fits, grown-fits}
+use Rattle.rct.specs.Syntax.{Section, sectionLength, fullLength, sealed, RctHeaderFits, Fits}
+use Rattle.rct.specs.Reading.{numberRow, countAt, sectionAt, checked}
+use Rattle.rct.proofs.Checked.{length-sealed, Holds, holds-known, checked-holds, count-is, number-passed, number-pass}
+use Rattle.rct_edit.specs.Edit.{mostLinks, bare, withLink, withNext, written, fresh, lengthRow, bodyRow, countRow, roomRows, roomVerdict, editVerdict, replaceVerdict, appendVerdict, makeVerdict, Outcome, done, replaced, appended, made}
+use Rattle.rct_edit.proofs.Records.{with-short, next-short, with-fits, next-fits}
+use Rattle.rct_edit.proofs.Outcomes.{Roomy, room-passed}
 
 -- ---- room
 
 -- s is within the limit and within the room
-pub record Room (room : ℕ) (s : Section) : Type 0 where
-  pub fit : sectionLength s ≤ limit
-  pub enough : fullLength s ≤ room
+abbrev pub Room : ℕ → Section → Type 0
+Room room s = Roomy room (sectionLength s)
 
 -- what an accepted edit passed
 pub record Passed (xs : List ℕ) (row v : Verdict) (s : Section) : Type 0 where
@@ -41,8 +42,8 @@ module _ (xs : List ℕ) (row v : Verdict) (l : Link) (s : Section) where
       let one = then-fine (checked xs) _ a in
       let two = then-fine row _ (one .1) in
       let three = then-fine v _ (two .1) in
-      let four = then-fine (lengthRow s) _ (three .1) in
-      let five = then-fine (bodyRow l) _ (four .1) in
+      let four = then-fine (lengthRow (sectionLength s)) _ (three .1) in
+      let five = then-fine (bodyRow (length (linkBody l))) _ (four .1) in
       record {
         section-fine = one .0;
         row-fine = two .0;
@@ -74,42 +75,42 @@ pub record Unchanged (r : Refusal) (old : List ℕ) (o : Outcome) : Type 0 where
   pub total : o .total ≡ 0
   pub buffer : o .buffer ≡ old
 
-pub done-verdict : (v : Verdict) (s : Section) (new old : List ℕ) → done v s new old .verdict ≡ v
+pub done-verdict : (v : Verdict) (n : ℕ) (new old : List ℕ) → done v n new old .verdict ≡ v
 unfolding done
-done-verdict Fine s new old = refl
-done-verdict (Refused r) s new old = refl
+done-verdict Fine n new old = refl
+done-verdict (Refused r) n new old = refl
 
-pub done-refused : (v : Verdict) (r : Refusal) (s : Section) (new old : List ℕ) → v ≡ Refused r → Unchanged r old (done v s new old)
+pub done-refused : (v : Verdict) (r : Refusal) (n : ℕ) (new old : List ℕ) → v ≡ Refused r → Unchanged r old (done v n new old)
 unfolding done
-done-refused v r s new old e = rw e (record { verdict = refl; total = refl; buffer = refl })
+done-refused v r n new old e = rw e (record { verdict = refl; total = refl; buffer = refl })
 
 pub replaced-verdict : (xs : List ℕ) (k : ℕ) (v : Verdict) (l : Link) → replaced xs k v l .verdict ≡ replaceVerdict xs k v l
 unfolding replaced
-replaced-verdict xs k v l = done-verdict (replaceVerdict xs k v l) (put (sectionAt xs) k l) (written xs (put (sectionAt xs) k l)) xs
+replaced-verdict xs k v l = done-verdict (replaceVerdict xs k v l) _ _ xs
 
 pub appended-verdict : (xs : List ℕ) (v : Verdict) (l : Link) → appended xs v l .verdict ≡ appendVerdict xs v l
 unfolding appended
-appended-verdict xs v l = done-verdict (appendVerdict xs v l) (grown (sectionAt xs) l) (written xs (grown (sectionAt xs) l)) xs
+appended-verdict xs v l = done-verdict (appendVerdict xs v l) _ _ xs
 
 pub made-verdict : (xs : List ℕ) (v : Verdict) (s : Section) → made xs v s .verdict ≡ makeVerdict (length xs) v s
 unfolding made
-made-verdict xs v s = done-verdict (makeVerdict (length xs) v s) s (fresh xs s) xs
+made-verdict xs v s = done-verdict (makeVerdict (length xs) v s) _ _ xs
 
 -- a call that is refused leaves every byte
 pub replaced-refused : (xs : List ℕ) (k : ℕ) (v : Verdict) (l : Link) (r : Refusal) → replaceVerdict xs k v l ≡ Refused r → Unchanged r xs (replaced xs k v l)
 unfolding replaced
-replaced-refused xs k v l r = done-refused (replaceVerdict xs k v l) r (put (sectionAt xs) k l) (written xs (put (sectionAt xs) k l)) xs
+replaced-refused xs k v l r = done-refused (replaceVerdict xs k v l) r _ _ xs
 
 pub appended-refused : (xs : List ℕ) (v : Verdict) (l : Link) (r : Refusal) → appendVerdict xs v l ≡ Refused r → Unchanged r xs (appended xs v l)
 unfolding appended
-appended-refused xs v l r = done-refused (appendVerdict xs v l) r (grown (sectionAt xs) l) (written xs (grown (sectionAt xs) l)) xs
+appended-refused xs v l r = done-refused (appendVerdict xs v l) r _ _ xs
 
 pub made-refused : (xs : List ℕ) (v : Verdict) (s : Section) (r : Refusal) → makeVerdict (length xs) v s ≡ Refused r → Unchanged r xs (made xs v s)
 unfolding made
-made-refused xs v s r = done-refused (makeVerdict (length xs) v s) r s (fresh xs s) xs
+made-refused xs v s r = done-refused (makeVerdict (length xs) v s) r _ _ xs
 
 -- s′ is written over the section that the buffer holds
-written-stepped : (s s′ : Section) (xs : List ℕ) → Holds s xs → Fits limit s′ → fullLength s′ ≤ length xs → Stepped s′ (written xs s′) xs (done Fine s′ (written xs s′) xs)
+written-stepped : (s s′ : Section) (xs : List ℕ) → Holds s xs → Fits checkedDemands s′ → fullLength s′ ≤ length xs → Stepped s′ (written xs s′) xs (done Fine (fullLength s′) (written xs s′) xs)
 unfolding done written
 written-stepped s s′ xs h f r =
     let w = holds-known s xs h in
@@ -127,12 +128,12 @@ written-stepped s s′ xs h f r =
 pub record CanReplace (s : Section) (room k : ℕ) (v : Verdict) (l : Link) : Type 0 where
   pub below : k < length (s .links)
   pub link : v ≡ Fine
-  pub room-for : Room room (put s k l)
+  pub room-for : Room room (withLink s k l)
 
 pub record CanAppend (s : Section) (room : ℕ) (v : Verdict) (l : Link) : Type 0 where
   pub below : length (s .links) < mostLinks
   pub link : v ≡ Fine
-  pub room-for : Room room (grown s l)
+  pub room-for : Room room (withNext s l)
 
 pub record CanMake (room : ℕ) (v : Verdict) (s : Section) : Type 0 where
   pub parts : v ≡ Fine
@@ -151,53 +152,52 @@ module _ (v : Verdict) (l : Link) (good : v ≡ Fine → LinkFits l) (s : Sectio
   pub replace-can : (k : ℕ) → replaceVerdict xs k v l ≡ Fine → CanReplace s (length xs) k v l
   unfolding replaceVerdict
   replace-can k a =
-      let p = edit-passed xs (numberRow xs k) v l (put (sectionAt xs) k l) a in
-      record { below = rw (← count) (passed-leb (countAt xs) k _ _ _ (p .row-fine)); link = p .link-fine; room-for = rw (← same) (p .room-for) }
+      let p = edit-passed xs (numberRow xs k) v l (withLink (sectionAt xs) k l) a in
+      record { below = rw (← count) (number-passed xs k (p .row-fine)); link = p .link-fine; room-for = rw (← same) (p .room-for) }
 
   pub can-replace : (k : ℕ) → CanReplace s (length xs) k v l → replaceVerdict xs k v l ≡ Fine
   unfolding replaceVerdict
   can-replace k c =
       rw same
-      (pass-edit xs (numberRow xs k) v l (put s k l) (put-short s k l (c .below) (c .room-for .fit))
-      (record { section-fine = holds-known s xs h .passed; row-fine = pass-leb (countAt xs) k _ _ _ (omega (arith, count, c .below)); link-fine = c .link; room-for = c .room-for }))
+      (pass-edit xs (numberRow xs k) v l (withLink s k l) (with-short s k l (c .below) (c .room-for .fit))
+      (record { section-fine = holds-known s xs h .passed; row-fine = number-pass xs k (omega (arith, count, c .below)); link-fine = c .link; room-for = c .room-for }))
 
-  pub stepped : (k : ℕ) → CanReplace s (length xs) k v l → Stepped (put s k l) (written xs (put s k l)) xs (replaced xs k v l)
+  pub stepped : (k : ℕ) → CanReplace s (length xs) k v l → Stepped (withLink s k l) (written xs (withLink s k l)) xs (replaced xs k v l)
   unfolding replaced
   stepped k c =
       rw (can-replace k c, same)
-      (written-stepped s (put s k l) xs h (put-fits s k l (h .fits) (good (c .link)) (c .below) (c .room-for .fit)) (c .room-for .enough))
+      (written-stepped s (withLink s k l) xs h (with-fits s k l (h .fits) (good (c .link)) (c .below) (c .room-for .fit)) (c .room-for .enough))
 
   pub append-can : appendVerdict xs v l ≡ Fine → CanAppend s (length xs) v l
   unfolding appendVerdict
   append-can a =
-      let p = edit-passed xs (countRow xs) v l (grown (sectionAt xs) l) a in
+      let p = edit-passed xs (countRow xs) v l (withNext (sectionAt xs) l) a in
       record { below = rw (← count) (passed-leb mostLinks (countAt xs) _ _ _ (p .row-fine)); link = p .link-fine; room-for = rw (← same) (p .room-for) }
 
   pub can-append : CanAppend s (length xs) v l → appendVerdict xs v l ≡ Fine
   unfolding appendVerdict
   can-append c =
       rw same
-      (pass-edit xs (countRow xs) v l (grown s l) (grown-short s l (c .room-for .fit))
+      (pass-edit xs (countRow xs) v l (withNext s l) (next-short s l (c .room-for .fit))
       (record { section-fine = holds-known s xs h .passed; row-fine = pass-leb mostLinks (countAt xs) _ _ _ (omega (arith, count, c .below)); link-fine = c .link; room-for = c .room-for }))
 
-  pub append-stepped : CanAppend s (length xs) v l → Stepped (grown s l) (written xs (grown s l)) xs (appended xs v l)
+  pub append-stepped : CanAppend s (length xs) v l → Stepped (withNext s l) (written xs (withNext s l)) xs (appended xs v l)
   unfolding appended
   append-stepped c =
       rw (can-append c, same)
-      (written-stepped s (grown s l) xs h (grown-fits s l (h .fits) (good (c .link)) (c .below) (c .room-for .fit)) (c .room-for .enough))
+      (written-stepped s (withNext s l) xs h (next-fits s l (h .fits) (good (c .link)) (c .below) (c .room-for .fit)) (c .room-for .enough))
 
 -- ---- making, in any buffer, with a verdict v that lets through only a header and a loop that fit
 
-module _ (v : Verdict) (h : RctHeader) (b : Block) (good : v ≡ Fine → HeaderFits h × BlockFits b) (xs : List ℕ) where
+module _ (v : Verdict) (h : RctHeader) (b : Block) (good : v ≡ Fine → RctHeaderFits h × BlockFits b) (xs : List ℕ) where
   pub make-can : makeVerdict (length xs) v (bare h b) ≡ Fine → CanMake (length xs) v (bare h b)
   unfolding makeVerdict
   make-can a =
-      let one = then-fine v _ a in
-      let two = then-fine (lengthRow (bare h b)) _ (one .1) in
-      record { parts = one .0; room-for = record { fit = passed-ltb _ _ _ _ _ (two .0); enough = passed-ltb _ _ _ _ _ (two .1) } }
+      let two = then-fine v _ a in
+      record { parts = two .0; room-for = room-passed (length xs) (sectionLength (bare h b)) (two .1) }
 
   pub can-make : CanMake (length xs) v (bare h b) → makeVerdict (length xs) v (bare h b) ≡ Fine
-  unfolding makeVerdict
+  unfolding makeVerdict roomRows
   can-make c = fine-then _ _ (c .parts) (fine-then _ _ (pass-ltb _ _ _ _ _ (c .room-for .fit)) (pass-ltb _ _ _ _ _ (c .room-for .enough)))
 
   pub make-stepped : CanMake (length xs) v (bare h b) → Stepped (bare h b) (fresh xs (bare h b)) xs (made xs v (bare h b))
@@ -216,25 +216,25 @@ module _ (v : Verdict) (h : RctHeader) (b : Block) (good : v ≡ Fine → Header
 
 pub replace-checked : (xs : List ℕ) (k : ℕ) (v : Verdict) (l : Link) → replaceVerdict xs k v l ≡ Fine → checked xs ≡ Fine
 unfolding replaceVerdict
-replace-checked xs k v l f = edit-passed xs (numberRow xs k) v l (put (sectionAt xs) k l) f .section-fine
+replace-checked xs k v l f = edit-passed xs (numberRow xs k) v l (withLink (sectionAt xs) k l) f .section-fine
 
 pub append-checked : (xs : List ℕ) (v : Verdict) (l : Link) → appendVerdict xs v l ≡ Fine → checked xs ≡ Fine
 unfolding appendVerdict
-append-checked xs v l f = edit-passed xs (countRow xs) v l (grown (sectionAt xs) l) f .section-fine
+append-checked xs v l f = edit-passed xs (countRow xs) v l (withNext (sectionAt xs) l) f .section-fine
 
 module _ (xs : List ℕ) (b : Bytes xs) (v : Verdict) (l : Link) (good : v ≡ Fine → LinkFits l) where
-  pub replaced-stepped : (k : ℕ) → replaced xs k v l .verdict ≡ Fine → Stepped (put (sectionAt xs) k l) (written xs (put (sectionAt xs) k l)) xs (replaced xs k v l)
+  pub replaced-stepped : (k : ℕ) → replaced xs k v l .verdict ≡ Fine → Stepped (withLink (sectionAt xs) k l) (written xs (withLink (sectionAt xs) k l)) xs (replaced xs k v l)
   replaced-stepped k a =
       let f : replaceVerdict xs k v l ≡ Fine = sym (replaced-verdict xs k v l) ∙ a in
       let h = checked-holds xs b (replace-checked xs k v l f) in
       stepped v l good (sectionAt xs) xs h k (replace-can v l good (sectionAt xs) xs h k f)
 
-  pub appended-stepped : appended xs v l .verdict ≡ Fine → Stepped (grown (sectionAt xs) l) (written xs (grown (sectionAt xs) l)) xs (appended xs v l)
+  pub appended-stepped : appended xs v l .verdict ≡ Fine → Stepped (withNext (sectionAt xs) l) (written xs (withNext (sectionAt xs) l)) xs (appended xs v l)
   appended-stepped a =
       let f : appendVerdict xs v l ≡ Fine = sym (appended-verdict xs v l) ∙ a in
       let h = checked-holds xs b (append-checked xs v l f) in
       append-stepped v l good (sectionAt xs) xs h (append-can v l good (sectionAt xs) xs h f)
 
-pub made-stepped : (xs : List ℕ) (v : Verdict) (h : RctHeader) (b : Block) → (v ≡ Fine → HeaderFits h × BlockFits b) → made xs v (bare h b) .verdict ≡ Fine
+pub made-stepped : (xs : List ℕ) (v : Verdict) (h : RctHeader) (b : Block) → (v ≡ Fine → RctHeaderFits h × BlockFits b) → made xs v (bare h b) .verdict ≡ Fine
     → Stepped (bare h b) (fresh xs (bare h b)) xs (made xs v (bare h b))
 made-stepped xs v h b good a = make-stepped v h b good xs (make-can v h b good xs (sym (made-verdict xs v (bare h b)) ∙ a))

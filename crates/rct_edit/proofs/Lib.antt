@@ -1,14 +1,18 @@
--- The laws of making, appending and replacing, demands 2 and 3 among them, and that each public contract leaves one outcome.
+-- The laws of making, appending and replacing, demands 2 and 3 among them; which numbers the calls can answer, and in which
+-- order; and that each public contract leaves one outcome.
 pub mod Records
+pub mod Outcomes
 pub mod Calls
+pub mod BodyRow
+pub mod Listed
+pub mod Rows
+pub mod Order
+pub mod MakingOrder
 pub mod ReadsBack
 pub mod TwoOrders
-pub mod Never
 pub mod Rebuilt
 pub mod Locality
 pub mod Assembled
-pub mod Outcomes
-pub mod Stores
 pub mod Narrow
 pub mod Carriers
 pub mod Unique

@@ -10,25 +10,27 @@ use Rattle.wire.specs.Lists.{Bytes, part}
 use Rattle.wire.specs.Lengths.{longest, lengthBytes, besideOf, besideAt, blockBytes, blockEnd}
 use Rattle.wire.specs.declared.verdict.Verdict.the-variants.{Fine}
 use Rattle.link.specs.Syntax.{Link, entryOf}
-use Rattle.frame.specs.Frame.{declared, payloadEnd}
+use Rattle.section_header.specs.Syntax.{headerBytes, firstBits}
+use Rattle.frame.specs.Reading.{declared, payloadEnd}
+use Rattle.frame.specs.declared.Demands.{Demands}
 use Rattle.rct.specs.declared.RctHeader.{RctHeader}
-use Rattle.rct.specs.Syntax.{tableId, headLength, Section, firstBits, headBytes, linksBytes, payload, sectionLength, sectionBytes}
+use Rattle.rct.specs.Syntax.{linkCountPlace, tableId, headLength, Section, headBytes, linksBytes, payload, sectionLength, sectionBytes}
 use Rattle.rct.specs.Reading.{countAt, linkIn, linksAt, linkPlace, loopPlace, sectionAt, reading}
 use Rattle.rct.proofs.Links.{entry-length, entry-read, EntryRead, length-linksAt, Found, found, links-append}
 use Rattle.rct.proofs.Accepted.{length-payload, Accepted, accepted, length-is, rebuild}
-use Rattle.rct_edit.specs.Edit.{withLinks, put, grown}
-use Rattle.rct_edit.specs.Steps.{rehead}
+use Rattle.rct_edit.specs.Edit.{withLinks, withLink, withNext}
+use Rattle.rct_edit.specs.Rehead.{rehead}
 
 -- ---- the head's numbers anew
 
 pub rehead-head : (h : RctHeader) (m n j k : ℕ) (ys : List ℕ) → m ≤ longest → rehead (headBytes h m j ++ ys) n k ≡ headBytes h n k ++ ys
-unfolding rehead headBytes lengthBytes
+unfolding rehead headBytes headerBytes lengthBytes
 rehead-head h m n j k ys l = λ i. tableId ∷ first i ∷ drop 2 (headBytes h n k ++ ys)
   where
-    first : besideOf (firstBits h * 16 + m / 256) (m % 256) * 16 + n / 256 ≡ firstBits h * 16 + n / 256
+    first : besideOf (firstBits (h .section) * 16 + m / 256) (m % 256) * 16 + n / 256 ≡ firstBits (h .section) * 16 + n / 256
     first = omega (arith, l)
 
-pub rehead-take : (e : ℕ) (xs : List ℕ) (n k : ℕ) → 10 < e → take e (rehead xs n k) ≡ rehead (take e xs) n k
+pub rehead-take : (e : ℕ) (xs : List ℕ) (n k : ℕ) → linkCountPlace < e → take e (rehead xs n k) ≡ rehead (take e xs) n k
 unfolding rehead lengthBytes
 rehead-take e xs n k h =
     let h1 : 1 < e = omega arith in
@@ -36,7 +38,7 @@ rehead-take e xs n k h =
     let hi : ℕ = besideAt xs 1 * 16 + n / 256 in
     rw (take-set-lt e (set (set xs 1 hi) 2 (n % 256)) 10, take-set-lt e (set xs 1 hi) 2, take-set-lt e xs 1, getD-take e xs 1 0, getD-take e xs 2 0)
 
-pub rehead-drop : (e : ℕ) (xs : List ℕ) (n k : ℕ) → 10 < e → drop e (rehead xs n k) ≡ drop e xs
+pub rehead-drop : (e : ℕ) (xs : List ℕ) (n k : ℕ) → linkCountPlace < e → drop e (rehead xs n k) ≡ drop e xs
 unfolding rehead lengthBytes
 rehead-drop e xs n k h =
     let h1 : 1 < e = omega arith in
@@ -87,7 +89,7 @@ module _ (s : Section) (A K B : List Link) (l : Link) (is : s .links ≡ A ++ (K
       H = headBytes (s .header) (sectionLength s) (length (s .links))
 
       lengthH : length H ≡ headLength
-      lengthH = unfold headBytes lengthBytes in refl
+      lengthH = unfold headBytes headerBytes lengthBytes in refl
 
       before : take p (sectionBytes s) ≡ H ++ linksBytes A
       before =
@@ -126,16 +128,16 @@ drop-take xs q e h l =
     let sum : e ≡ q + (e - q) = omega arith in
     ap (λ k. drop q (take k xs)) sum ∙ ap (drop q) (take-add q (e - q) xs) ∙ drop-at (take q xs) (part xs q (e - q)) q (length-take-le q xs (omega arith))
 
-module _ (most : ℕ) (xs : List ℕ) (b : Bytes xs) (v : reading most xs ≡ Fine) (m : most ≤ longest) where
+module _ (dm : Demands) (xs : List ℕ) (b : Bytes xs) (v : reading dm xs ≡ Fine) (m : dm .most ≤ longest) where
   splice : (A K B : List Link) (l : Link) → sectionAt xs .links ≡ A ++ (K ++ B) → (p q : ℕ) → p ≡ headLength + length (linksBytes A) → q ≡ p + length (linksBytes K) → q ≤ payloadEnd xs
       → Splice xs (withLinks (sectionAt xs) (A ++ l ∷ B)) l p q
   splice A K B l is p q ep eq inside = record { low = omega arith; ordered = omega arith; inside = inside; sum = sum; bytes = bytes }
     where
-      a : Accepted most xs
-      a = accepted most xs b v
+      a : Accepted dm xs
+      a = accepted dm xs b v
 
       len : sectionLength (sectionAt xs) ≡ declared xs
-      len = length-is most xs b a
+      len = length-is dm xs b a
 
       sum : sectionLength (withLinks (sectionAt xs) (A ++ l ∷ B)) + q ≡ declared xs + p + length (blockBytes (entryOf l))
       sum = omega (arith, length-splice (sectionAt xs) A K B l is, len)
@@ -149,17 +151,17 @@ module _ (most : ℕ) (xs : List ℕ) (b : Bytes xs) (v : reading most xs ≡ Fi
       bytes : sectionBytes (withLinks (sectionAt xs) (A ++ l ∷ B))
           ≡ rehead (take p xs ++ (blockBytes (entryOf l) ++ part xs q (payloadEnd xs - q))) (sectionLength (withLinks (sectionAt xs) (A ++ l ∷ B))) (length (A ++ l ∷ B))
       bytes =
-          rw (← front, ← back, ← rebuild most xs b v)
+          rw (← front, ← back, ← rebuild dm xs b v)
           (locality (sectionAt xs) A K B l is (omega (arith, len, a .frame .limited)) p q ep eq)
 
-  pub replace-splice : (k : ℕ) (l : Link) → k < countAt xs → Splice xs (put (sectionAt xs) k l) l (linkPlace xs k) (blockEnd xs (linkPlace xs k))
-  unfolding put sectionAt
+  pub replace-splice : (k : ℕ) (l : Link) → k < countAt xs → Splice xs (withLink (sectionAt xs) k l) l (linkPlace xs k) (blockEnd xs (linkPlace xs k))
+  unfolding withLink sectionAt
   replace-splice k l h =
       rw (set-split ls k l under)
       (splice (take k ls) (getD ls k l ∷ []) (drop (suc k) ls) l (split-at ls k l under) p (blockEnd xs p) (here .place) size (here .within))
     where
-      a : Accepted most xs
-      a = accepted most xs b v
+      a : Accepted dm xs
+      a = accepted dm xs b v
 
       ls : List Link
       ls = linksAt (countAt xs) xs headLength
@@ -179,12 +181,12 @@ module _ (most : ℕ) (xs : List ℕ) (b : Bytes xs) (v : reading most xs ≡ Fi
       size : blockEnd xs p ≡ p + length (linksBytes (getD ls k l ∷ []))
       size = rw (here .link l) (omega (arith, length-append (blockBytes (entryOf (linkIn xs p))) [], entry-length (linkIn xs p), read .size))
 
-  pub append-splice : (l : Link) → Splice xs (grown (sectionAt xs) l) l (loopPlace xs) (loopPlace xs)
-  unfolding grown sectionAt
+  pub append-splice : (l : Link) → Splice xs (withNext (sectionAt xs) l) l (loopPlace xs) (loopPlace xs)
+  unfolding withNext sectionAt
   append-splice l = splice ls [] [] l (sym (append-nil ls)) (loopPlace xs) (loopPlace xs) place (omega arith) (omega (arith, a .loop-end))
     where
-      a : Accepted most xs
-      a = accepted most xs b v
+      a : Accepted dm xs
+      a = accepted dm xs b v
 
       ls : List Link
       ls = linksAt (countAt xs) xs headLength

@@ -12,13 +12,13 @@ use Rattle.wire.specs.Lengths.{Block, BlockFits}
 use Rattle.wire.specs.declared.verdict.Verdict.{Verdict}
 use Rattle.wire.specs.declared.verdict.Verdict.the-variants.{Fine}
 use Rattle.link.specs.Syntax.{Link, LinkFits}
-use Rattle.frame.specs.Frame.{totalOf}
+use Rattle.frame.specs.Reading.{totalOf}
 use Rattle.rct.specs.declared.RctHeader.{RctHeader}
-use Rattle.rct.specs.Syntax.{Section, fullLength, sealed, HeaderFits}
+use Rattle.rct.specs.Syntax.{Section, fullLength, sealed, RctHeaderFits}
 use Rattle.rct.specs.Reading.{countAt, sectionAt, checked}
 use Rattle.rct.proofs.Checked.{length-sealed, Known, holds-known, count-is}
-use Rattle.rct_edit.specs.Edit.{filler, bare, put, grown, written, fresh, Outcome, replaced, appended, made}
-use Rattle.rct_edit.proofs.Records.{put-named, put-others, length-put, grown-last, grown-others, length-grown}
+use Rattle.rct_edit.specs.Edit.{filler, bare, withLink, withNext, written, fresh, Outcome, replaced, appended, made}
+use Rattle.rct_edit.proofs.Records.{with-named, with-others, length-with, next-last, next-others, length-next}
 use Rattle.rct_edit.proofs.Calls.{Stepped, replaced-stepped, appended-stepped, made-stepped}
 
 -- the buffer passes the checked reading, which gives s; the answer is its total
@@ -32,41 +32,41 @@ stepped-reads s new old o st =
     let k : Known s (o .buffer) = holds-known s (o .buffer) (st .holds) in
     record { passed = k .passed; same = k .same; total = k .total ∙ sym (st .total) }
 
-pub made-back : (xs : List ℕ) (v : Verdict) (h : RctHeader) (b : Block) → (v ≡ Fine → HeaderFits h × BlockFits b) → made xs v (bare h b) .verdict ≡ Fine
+pub made-back : (xs : List ℕ) (v : Verdict) (h : RctHeader) (b : Block) → (v ≡ Fine → RctHeaderFits h × BlockFits b) → made xs v (bare h b) .verdict ≡ Fine
     → ReadsBack (bare h b) (made xs v (bare h b))
 made-back xs v h b good a = stepped-reads (bare h b) (fresh xs (bare h b)) xs (made xs v (bare h b)) (made-stepped xs v h b good a)
 
 module _ (xs : List ℕ) (b : Bytes xs) (v : Verdict) (l : Link) (good : v ≡ Fine → LinkFits l) where
-  pub replaced-back : (k : ℕ) → replaced xs k v l .verdict ≡ Fine → ReadsBack (put (sectionAt xs) k l) (replaced xs k v l)
-  replaced-back k a = stepped-reads (put (sectionAt xs) k l) (written xs (put (sectionAt xs) k l)) xs (replaced xs k v l) (replaced-stepped xs b v l good k a)
+  pub replaced-back : (k : ℕ) → replaced xs k v l .verdict ≡ Fine → ReadsBack (withLink (sectionAt xs) k l) (replaced xs k v l)
+  replaced-back k a = stepped-reads (withLink (sectionAt xs) k l) (written xs (withLink (sectionAt xs) k l)) xs (replaced xs k v l) (replaced-stepped xs b v l good k a)
 
-  pub appended-back : appended xs v l .verdict ≡ Fine → ReadsBack (grown (sectionAt xs) l) (appended xs v l)
-  appended-back a = stepped-reads (grown (sectionAt xs) l) (written xs (grown (sectionAt xs) l)) xs (appended xs v l) (appended-stepped xs b v l good a)
+  pub appended-back : appended xs v l .verdict ≡ Fine → ReadsBack (withNext (sectionAt xs) l) (appended xs v l)
+  appended-back a = stepped-reads (withNext (sectionAt xs) l) (written xs (withNext (sectionAt xs) l)) xs (appended xs v l) (appended-stepped xs b v l good a)
 
   -- link i afterwards: the new one where it was named, and else what it was
   pub replaced-named : (k : ℕ) (d : Link) → replaced xs k v l .verdict ≡ Fine → k < countAt xs → getD (sectionAt (replaced xs k v l .buffer) .links) k d ≡ l
   replaced-named k d a h =
-      ap (λ (s : Section). getD (s .links) k d) (replaced-back k a .same) ∙ put-named (sectionAt xs) k l d (omega (arith, count-is xs))
+      ap (λ (s : Section). getD (s .links) k d) (replaced-back k a .same) ∙ with-named (sectionAt xs) k l d (omega (arith, count-is xs))
 
   pub replaced-others : (k i : ℕ) (d : Link) → replaced xs k v l .verdict ≡ Fine → i ≢ k → getD (sectionAt (replaced xs k v l .buffer) .links) i d ≡ getD (sectionAt xs .links) i d
-  replaced-others k i d a n = ap (λ (s : Section). getD (s .links) i d) (replaced-back k a .same) ∙ put-others (sectionAt xs) k i l d n
+  replaced-others k i d a n = ap (λ (s : Section). getD (s .links) i d) (replaced-back k a .same) ∙ with-others (sectionAt xs) k i l d n
 
   pub replaced-count : (k : ℕ) → replaced xs k v l .verdict ≡ Fine → countAt (replaced xs k v l .buffer) ≡ countAt xs
   replaced-count k a =
-      sym (count-is (replaced xs k v l .buffer)) ∙ ap (λ (s : Section). length (s .links)) (replaced-back k a .same) ∙ length-put (sectionAt xs) k l ∙ count-is xs
+      sym (count-is (replaced xs k v l .buffer)) ∙ ap (λ (s : Section). length (s .links)) (replaced-back k a .same) ∙ length-with (sectionAt xs) k l ∙ count-is xs
 
   pub appended-last : (d : Link) → appended xs v l .verdict ≡ Fine → getD (sectionAt (appended xs v l .buffer) .links) (countAt xs) d ≡ l
   appended-last d a =
       ap (λ (s : Section). getD (s .links) (countAt xs) d) (appended-back a .same)
-      ∙ ap (λ n. getD (grown (sectionAt xs) l .links) n d) (sym (count-is xs)) ∙ grown-last (sectionAt xs) l d
+      ∙ ap (λ n. getD (withNext (sectionAt xs) l .links) n d) (sym (count-is xs)) ∙ next-last (sectionAt xs) l d
 
   pub appended-others : (i : ℕ) (d : Link) → appended xs v l .verdict ≡ Fine → i < countAt xs → getD (sectionAt (appended xs v l .buffer) .links) i d ≡ getD (sectionAt xs .links) i d
-  appended-others i d a h = ap (λ (s : Section). getD (s .links) i d) (appended-back a .same) ∙ grown-others (sectionAt xs) i l d (omega (arith, count-is xs))
+  appended-others i d a h = ap (λ (s : Section). getD (s .links) i d) (appended-back a .same) ∙ next-others (sectionAt xs) i l d (omega (arith, count-is xs))
 
   pub appended-count : appended xs v l .verdict ≡ Fine → countAt (appended xs v l .buffer) ≡ countAt xs + 1
   appended-count a =
       sym (count-is (appended xs v l .buffer)) ∙ ap (λ (s : Section). length (s .links)) (appended-back a .same)
-      ∙ length-grown (sectionAt xs) l ∙ ap (λ n. n + 1) (count-is xs)
+      ∙ length-next (sectionAt xs) l ∙ ap (λ n. n + 1) (count-is xs)
 
 -- ---- behind the section
 

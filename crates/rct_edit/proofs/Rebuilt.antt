@@ -11,13 +11,14 @@ use Rattle.wire.specs.Numbers.{bytes32}
 use Rattle.wire.specs.declared.verdict.Verdict.the-variants.{Fine}
 use Rattle.crc.specs.Crc.{crcOf}
 use Rattle.link.specs.Syntax.{Link}
-use Rattle.frame.specs.Frame.{declared, totalOf, payloadEnd}
-use Rattle.rct.specs.Syntax.{limit, Section, linksBytes, sectionLength, fullLength, sealed, EntryFits, LinksFit, Fits}
+use Rattle.frame.specs.Syntax.{limit}
+use Rattle.frame.specs.Reading.{checkedDemands, declared, payloadEnd, totalOf}
+use Rattle.rct.specs.Syntax.{Section, linksBytes, sectionLength, fullLength, sealed, EntryFits, LinksFit, Fits}
 use Rattle.rct.specs.Reading.{sectionAt, reading, plain}
 use Rattle.rct.proofs.Links.{links-append}
 use Rattle.rct.proofs.Accepted.{length-payload, accepted, length-is, rebuild, accepted-fits}
 use Rattle.rct.proofs.Checked.{within-iff, length-sealed, Holds, holds-known}
-use Rattle.rct_edit.specs.Edit.{withLinks, bare, grown, written, fresh, made, appended}
+use Rattle.rct_edit.specs.Edit.{withLinks, bare, withNext, written, fresh, made, appended}
 use Rattle.rct_edit.proofs.Calls.{Stepped, CanAppend, append-stepped, make-stepped}
 
 -- links appended one after the other, none of which is refused for what it is: the buffer at the end
@@ -45,7 +46,7 @@ unfolding sectionLength
 prefix-length s a b =
     omega (arith, length-payload (withLinks s a), length-payload (withLinks s (a ++ b)), ap length (links-append a b), length-append (linksBytes a) (linksBytes b))
 
-prefix-fits : (s : Section) (a b : List Link) → Fits limit (withLinks s (a ++ b)) → Fits limit (withLinks s a)
+prefix-fits : (s : Section) (a b : List Link) → Fits checkedDemands (withLinks s (a ++ b)) → Fits checkedDemands (withLinks s a)
 prefix-fits s a b f =
     record {
       header = f .header;
@@ -65,7 +66,7 @@ length-front : (s : Section) (zs : List ℕ) (a : List Link) → fullLength (wit
 unfolding fresh
 length-front s zs a h = simp (length-append, length-sealed (withLinks s a), length-drop) (omega arith)
 
-front-holds : (s : Section) (zs : List ℕ) (a : List Link) → Fits limit (withLinks s a) → Holds (withLinks s a) (front s zs a)
+front-holds : (s : Section) (zs : List ℕ) (a : List Link) → Fits checkedDemands (withLinks s a) → Holds (withLinks s a) (front s zs a)
 unfolding fresh
 front-holds s zs a f = record { fits = f; rest = drop (fullLength (withLinks s a)) zs; is = refl }
 
@@ -76,7 +77,7 @@ behind p zs n m l h =
     ∙ drop-drop (m - n) n zs ∙ ap (λ i. drop i zs) sum
 
 -- where the section grows nothing is filled, and what lay behind stays
-grows : (s : Section) (zs : List ℕ) (a b : List Link) → Fits limit (withLinks s a) → written (front s zs a) (withLinks s (a ++ b)) ≡ front s zs (a ++ b)
+grows : (s : Section) (zs : List ℕ) (a b : List Link) → Fits checkedDemands (withLinks s a) → written (front s zs a) (withLinks s (a ++ b)) ≡ front s zs (a ++ b)
 unfolding written fresh
 grows s zs a b f =
     let t : totalOf (front s zs a) ≡ fullLength (withLinks s a) = holds-known (withLinks s a) (front s zs a) (front-holds s zs a f) .total in
@@ -87,15 +88,15 @@ grows s zs a b f =
     (ap (λ r. sealed (withLinks s (a ++ b)) ++ r)
     (behind (sealed (withLinks s a)) zs (fullLength (withLinks s a)) (fullLength (withLinks s (a ++ b))) (length-sealed (withLinks s a)) u))
 
-one-more : (s : Section) (zs : List ℕ) (a : List Link) (l : Link) (b : List Link) → Fits limit (withLinks s (a ++ l ∷ b)) → fullLength (withLinks s (a ++ l ∷ b)) ≤ length zs
+one-more : (s : Section) (zs : List ℕ) (a : List Link) (l : Link) (b : List Link) → Fits checkedDemands (withLinks s (a ++ l ∷ b)) → fullLength (withLinks s (a ++ l ∷ b)) ≤ length zs
     → (appended (front s zs a) Fine l .verdict ≡ Fine) × (appended (front s zs a) Fine l .buffer ≡ front s zs (a ++ l ∷ []))
-unfolding grown
+unfolding withNext
 one-more s zs a l b f r = (st .verdict, st .buffer ∙ grows s zs a (l ∷ []) old)
   where
     more : (a ++ l ∷ []) ++ b ≡ a ++ l ∷ b
     more = append-assoc a (l ∷ []) b
 
-    old : Fits limit (withLinks s a)
+    old : Fits checkedDemands (withLinks s a)
     old = prefix-fits s a (l ∷ b) f
 
     up : sectionLength (withLinks s (a ++ l ∷ [])) ≤ sectionLength (withLinks s (a ++ l ∷ b))
@@ -111,11 +112,11 @@ one-more s zs a l b f r = (st .verdict, st .buffer ∙ grows s zs a (l ∷ []) o
       };
     }
 
-    st : Stepped (grown (withLinks s a) l) (written (front s zs a) (grown (withLinks s a) l)) (front s zs a) (appended (front s zs a) Fine l)
+    st : Stepped (withNext (withLinks s a) l) (written (front s zs a) (withNext (withLinks s a) l)) (front s zs a) (appended (front s zs a) Fine l)
     st = append-stepped Fine l (λ e. middle-fits a l b (f .links) .link) (withLinks s a) (front s zs a) (front-holds s zs a old) can
 
 -- links b appended to a section with links a
-build : (s : Section) (zs : List ℕ) (a b : List Link) → Fits limit (withLinks s (a ++ b)) → fullLength (withLinks s (a ++ b)) ≤ length zs
+build : (s : Section) (zs : List ℕ) (a b : List Link) → Fits checkedDemands (withLinks s (a ++ b)) → fullLength (withLinks s (a ++ b)) ≤ length zs
     → NoneRefused (front s zs a) b × (appends (front s zs a) b ≡ front s zs (a ++ b))
 build s zs a [] f r = (tt, ap (front s zs) (sym (append-nil a)))
 build s zs a (l ∷ b) f r =
@@ -133,9 +134,9 @@ pub record Rebuilt (xs zs : List ℕ) (s : Section) : Type 0 where
       ≡ (take (payloadEnd xs) xs ++ bytes32 (crcOf (take (payloadEnd xs) xs))) ++ drop (totalOf xs) zs
 
 -- the section that was read, in a buffer
-same : (xs zs : List ℕ) → Bytes xs → reading limit xs ≡ Fine → fresh zs (sectionAt xs) ≡ (take (payloadEnd xs) xs ++ bytes32 (crcOf (take (payloadEnd xs) xs))) ++ drop (totalOf xs) zs
+same : (xs zs : List ℕ) → Bytes xs → reading checkedDemands xs ≡ Fine → fresh zs (sectionAt xs) ≡ (take (payloadEnd xs) xs ++ bytes32 (crcOf (take (payloadEnd xs) xs))) ++ drop (totalOf xs) zs
 unfolding fresh sealed
-same xs zs b v = rw (rebuild limit xs b v, length-is limit xs b (accepted limit xs b v))
+same xs zs b v = rw (rebuild checkedDemands xs b v, length-is checkedDemands xs b (accepted checkedDemands xs b v))
 
 pub rebuilt : (xs zs : List ℕ) → Bytes xs → plain xs ≡ Fine → declared xs ≤ limit → totalOf xs ≤ length zs → Rebuilt xs zs (sectionAt xs)
 rebuilt xs zs b v l r = record { made-fine = m .verdict; appended-fine = rw (m .buffer) (all .0); bytes = rw (m .buffer) (all .1 ∙ same xs zs b in-limit) }
@@ -143,16 +144,16 @@ rebuilt xs zs b v l r = record { made-fine = m .verdict; appended-fine = rw (m .
     s : Section
     s = sectionAt xs
 
-    in-limit : reading limit xs ≡ Fine
-    in-limit = within-iff limit xs (omega arith) .1 (record { plainly = v; limited = l })
+    in-limit : reading checkedDemands xs ≡ Fine
+    in-limit = within-iff checkedDemands xs (omega arith) .1 (record { plainly = v; limited = l })
 
-    fits : Fits limit s
-    fits = accepted-fits limit xs b in-limit
+    fits : Fits checkedDemands s
+    fits = accepted-fits checkedDemands xs b in-limit
 
     len : sectionLength s ≡ declared xs
-    len = length-is limit xs b (accepted limit xs b in-limit)
+    len = length-is checkedDemands xs b (accepted checkedDemands xs b in-limit)
 
-    first : Fits limit (bare (s .header) (s .loop))
+    first : Fits checkedDemands (bare (s .header) (s .loop))
     first = prefix-fits s [] (s .links) fits
 
     m : Stepped (bare (s .header) (s .loop)) (front s zs []) zs (made zs Fine (bare (s .header) (s .loop)))

@@ -1,4 +1,4 @@
--- The records with a link put in or added: which links they have, and that they fit.
+-- The records with a link withLink in or added: which links they have, and that they fit.
 -- Assumes nothing.
 use mathlib.Core.Path.{_≡_, refl, ap}
 use mathlib.Core.Logic.{_≢_}
@@ -10,47 +10,49 @@ use lib.ListN.{length, getD, set, length-append, length-set, List·getD-append}
 use lib.Seq.{set-comm, getD-set-same, getD-set-other}
 use Rattle.wire.specs.Lengths.{longest, blockBytes}
 use Rattle.link.specs.Syntax.{Link, LinkFits, linkBody, entryOf}
-use Rattle.rct.specs.Syntax.{limit, Section, linksBytes, sectionLength, EntryFits, LinksFit, Fits}
+use Rattle.frame.specs.Syntax.{limit}
+use Rattle.frame.specs.Reading.{checkedDemands}
+use Rattle.rct.specs.Syntax.{Section, linksBytes, sectionLength, EntryFits, LinksFit, Fits}
 use Rattle.rct.proofs.Links.{entry-length}
 use Rattle.rct.proofs.Accepted.{length-payload}
-use Rattle.rct_edit.specs.Edit.{mostLinks, withLinks, put, grown}
+use Rattle.rct_edit.specs.Edit.{mostLinks, withLinks, withLink, withNext}
 
 -- ---- the links
 
 -- link k is the new one, and those that are not named stay
-pub put-named : (s : Section) (k : ℕ) (l d : Link) → k < length (s .links) → getD (put s k l .links) k d ≡ l
-unfolding put
-put-named s k l d h = getD-set-same (s .links) k l d h
+pub with-named : (s : Section) (k : ℕ) (l d : Link) → k < length (s .links) → getD (withLink s k l .links) k d ≡ l
+unfolding withLink
+with-named s k l d h = getD-set-same (s .links) k l d h
 
-pub put-others : (s : Section) (k i : ℕ) (l d : Link) → i ≢ k → getD (put s k l .links) i d ≡ getD (s .links) i d
-unfolding put
-put-others s k i l d n = getD-set-other (s .links) k i l d n
+pub with-others : (s : Section) (k i : ℕ) (l d : Link) → i ≢ k → getD (withLink s k l .links) i d ≡ getD (s .links) i d
+unfolding withLink
+with-others s k i l d n = getD-set-other (s .links) k i l d n
 
-pub length-put : (s : Section) (k : ℕ) (l : Link) → length (put s k l .links) ≡ length (s .links)
-unfolding put
-length-put s k l = length-set (s .links) k l
+pub length-with : (s : Section) (k : ℕ) (l : Link) → length (withLink s k l .links) ≡ length (s .links)
+unfolding withLink
+length-with s k l = length-set (s .links) k l
 
 -- the new link is the last, and those before it stay
-pub grown-last : (s : Section) (l d : Link) → getD (grown s l .links) (length (s .links)) d ≡ l
-unfolding grown
-grown-last s l d = last (s .links)
+pub next-last : (s : Section) (l d : Link) → getD (withNext s l .links) (length (s .links)) d ≡ l
+unfolding withNext
+next-last s l d = last (s .links)
   where
     last : (ls : List Link) → getD (ls ++ l ∷ []) (length ls) d ≡ l
     last [] = refl
     last (x ∷ ls) = last ls
 
-pub grown-others : (s : Section) (i : ℕ) (l d : Link) → i < length (s .links) → getD (grown s l .links) i d ≡ getD (s .links) i d
-unfolding grown
-grown-others s i l d h = List·getD-append (s .links) (l ∷ []) d i h
+pub next-others : (s : Section) (i : ℕ) (l d : Link) → i < length (s .links) → getD (withNext s l .links) i d ≡ getD (s .links) i d
+unfolding withNext
+next-others s i l d h = List·getD-append (s .links) (l ∷ []) d i h
 
-pub length-grown : (s : Section) (l : Link) → length (grown s l .links) ≡ length (s .links) + 1
-unfolding grown
-length-grown s l = length-append (s .links) (l ∷ [])
+pub length-next : (s : Section) (l : Link) → length (withNext s l .links) ≡ length (s .links) + 1
+unfolding withNext
+length-next s l = length-append (s .links) (l ∷ [])
 
--- two links that are put in at different numbers, in either order
-pub put-put : (s : Section) (k j : ℕ) (l m : Link) → k ≢ j → put (put s k l) j m ≡ put (put s j m) k l
-unfolding put
-put-put s k j l m n = ap (withLinks s) (set-comm (s .links) k j l m n)
+-- two links that are withLink in at different numbers, in either order
+pub with-two : (s : Section) (k j : ℕ) (l m : Link) → k ≢ j → withLink (withLink s k l) j m ≡ withLink (withLink s j m) k l
+unfolding withLink
+with-two s k j l m n = ap (withLinks s) (set-comm (s .links) k j l m n)
 
 -- ---- a link's bytes are among the links' bytes
 
@@ -68,13 +70,13 @@ body-short : (s : Section) (l : Link) → 2 + length (linkBody l) ≤ length (li
 unfolding sectionLength
 body-short s l h f = omega (arith, length-payload s)
 
-pub put-short : (s : Section) (k : ℕ) (l : Link) → k < length (s .links) → sectionLength (put s k l) ≤ limit → length (linkBody l) ≤ longest
-unfolding put
-put-short s k l h = body-short (put s k l) l (put-within (s .links) k l h)
+pub with-short : (s : Section) (k : ℕ) (l : Link) → k < length (s .links) → sectionLength (withLink s k l) ≤ limit → length (linkBody l) ≤ longest
+unfolding withLink
+with-short s k l h = body-short (withLink s k l) l (put-within (s .links) k l h)
 
-pub grown-short : (s : Section) (l : Link) → sectionLength (grown s l) ≤ limit → length (linkBody l) ≤ longest
-unfolding grown
-grown-short s l = body-short (grown s l) l (last-within (s .links) l)
+pub next-short : (s : Section) (l : Link) → sectionLength (withNext s l) ≤ limit → length (linkBody l) ≤ longest
+unfolding withNext
+next-short s l = body-short (withNext s l) l (last-within (s .links) l)
 
 -- ---- what fits, still fits
 
@@ -87,22 +89,22 @@ links-fit-more : (ls : List Link) (l : Link) → EntryFits l → LinksFit ls →
 links-fit-more [] l e f = (e, tt)
 links-fit-more (x ∷ ls) l e f = (f .0, links-fit-more ls l e (f .1))
 
-pub put-fits : (s : Section) (k : ℕ) (l : Link) → Fits limit s → LinkFits l → k < length (s .links) → sectionLength (put s k l) ≤ limit → Fits limit (put s k l)
-put-fits s k l f e h n =
+pub with-fits : (s : Section) (k : ℕ) (l : Link) → Fits checkedDemands s → LinkFits l → k < length (s .links) → sectionLength (withLink s k l) ≤ limit → Fits checkedDemands (withLink s k l)
+with-fits s k l f e h n =
     record {
-      header = unfold put in f .header;
-      count = rw (length-put s k l) (f .count);
-      links = unfold put in links-fit-set (s .links) k l (record { link = e; short = put-short s k l h n }) (f .links);
-      loop = unfold put in f .loop;
+      header = unfold withLink in f .header;
+      count = rw (length-with s k l) (f .count);
+      links = unfold withLink in links-fit-set (s .links) k l (record { link = e; short = with-short s k l h n }) (f .links);
+      loop = unfold withLink in f .loop;
       fits = n;
     }
 
-pub grown-fits : (s : Section) (l : Link) → Fits limit s → LinkFits l → length (s .links) < mostLinks → sectionLength (grown s l) ≤ limit → Fits limit (grown s l)
-grown-fits s l f e h n =
+pub next-fits : (s : Section) (l : Link) → Fits checkedDemands s → LinkFits l → length (s .links) < mostLinks → sectionLength (withNext s l) ≤ limit → Fits checkedDemands (withNext s l)
+next-fits s l f e h n =
     record {
-      header = unfold grown in f .header;
-      count = omega (arith, length-grown s l);
-      links = unfold grown in links-fit-more (s .links) l (record { link = e; short = grown-short s l n }) (f .links);
-      loop = unfold grown in f .loop;
+      header = unfold withNext in f .header;
+      count = omega (arith, length-next s l);
+      links = unfold withNext in links-fit-more (s .links) l (record { link = e; short = next-short s l n }) (f .links);
+      loop = unfold withNext in f .loop;
       fits = n;
     }

@@ -6,14 +6,12 @@ use Rattle.rct_edit.proofs.most_links.Kinds as most-links-kinds
 use Rattle.rct_edit.proofs.most_links.Reads as most-links-reads
 use Rattle.rct_edit.proofs.filler.Kinds as filler-kinds
 use Rattle.rct_edit.proofs.filler.Reads as filler-reads
-use Rattle.rct_edit.proofs.steps.refused.Kinds as refused-kinds
-use Rattle.rct_edit.proofs.steps.refused.Reads as refused-reads
-use Rattle.rct_edit.proofs.steps.accepted.Kinds as accepted-kinds
-use Rattle.rct_edit.proofs.steps.accepted.Reads as accepted-reads
-use Rattle.rct_edit.proofs.steps.check_room.Kinds as check-room-kinds
-use Rattle.rct_edit.proofs.steps.check_room.Reads as check-room-reads
-use Rattle.rct_edit.proofs.steps.seal.Kinds as seal-kinds
-use Rattle.rct_edit.proofs.steps.seal.Reads as seal-reads
+use Rattle.rct_edit.proofs.Edited.refused.Kinds as refused-kinds
+use Rattle.rct_edit.proofs.Edited.refused.Reads as refused-reads
+use Rattle.rct_edit.proofs.Edited.accepted.Kinds as accepted-kinds
+use Rattle.rct_edit.proofs.Edited.accepted.Reads as accepted-reads
+use Rattle.rct_edit.proofs.room.check_room.Kinds as check-room-kinds
+use Rattle.rct_edit.proofs.room.check_room.Reads as check-room-reads
 
 pub most-links-one : One most-links-kinds.ps most-links-kinds.r most-links-reads.Asked most-links-reads.Learnt
 most-links-one = record { total = λ κs a. tt; one = λ κs a x y v w p q. (both p q, refl) }
@@ -29,6 +27,3 @@ accepted-one = record { total = λ κs a. tt; one = λ κs a x y v w p q. (both 
 
 pub check-room-one : One check-room-kinds.ps check-room-kinds.r check-room-reads.Asked check-room-reads.Learnt
 check-room-one = record { total = λ κs a. tt; one = λ κs a x y v w p q. (both p q, refl) }
-
-pub seal-one : One seal-kinds.ps seal-kinds.r seal-reads.Asked seal-reads.Learnt
-seal-one = record { total = λ κs a. tt; one = λ κs a x y v w p q. (both (p .0) (q .0), pair (both (p .1) (q .1)) refl) }

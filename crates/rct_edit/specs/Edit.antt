@@ -5,15 +5,16 @@ use mathlib.Core.List.{List, [], _∷_, _++_}
 use lib.Dec.{ltb, leb}
 use lib.ListN.{length, set, drop, replicate}
 use Rattle.wire.specs.Lengths.{longest, Block}
-use Rattle.wire.specs.Refusals.{noSuchNumber, bodyTooLong, sectionTooLong, noRoom, noMoreLinks}
+use Rattle.wire.specs.Refusals.{bodyTooLong, sectionTooLong, noRoom, noMoreLinks}
 use Rattle.wire.specs.Verdict.{refuse, _▷_}
 use Rattle.wire.specs.declared.verdict.Verdict.{Verdict}
 use Rattle.wire.specs.declared.verdict.Verdict.the-variants.{Fine, Refused}
 use Rattle.link.specs.Syntax.{Link, linkBody}
-use Rattle.frame.specs.Frame.{totalOf}
+use Rattle.frame.specs.Syntax.{limit, uncounted}
+use Rattle.frame.specs.Reading.{totalOf}
 use Rattle.rct.specs.declared.RctHeader.{RctHeader}
-use Rattle.rct.specs.Syntax.{limit, Section, sectionLength, fullLength, sealed}
-use Rattle.rct.specs.Reading.{countAt, sectionAt, checked}
+use Rattle.rct.specs.Syntax.{Section, sectionLength, fullLength, sealed}
+use Rattle.rct.specs.Reading.{countAt, sectionAt, numberRow, checked}
 
 -- the most links that the count's byte can tell, and what freed bytes become
 abbrev pub mostLinks : ℕ
@@ -32,11 +33,11 @@ withLinks s ls = record { header = s .header; links = ls; loop = s .loop }
 abbrev pub bare : RctHeader → Block → Section
 bare h b = record { header = h; links = []; loop = b }
 
-unfoldable pub put : Section → ℕ → Link → Section
-put s k l = withLinks s (set (s .links) k l)
+unfoldable pub withLink : Section → ℕ → Link → Section
+withLink s k l = withLinks s (set (s .links) k l)
 
-unfoldable pub grown : Section → Link → Section
-grown s l = withLinks s (s .links ++ l ∷ [])
+unfoldable pub withNext : Section → Link → Section
+withNext s l = withLinks s (s .links ++ l ∷ [])
 
 -- ---- the buffer
 
@@ -50,22 +51,25 @@ fresh xs s = sealed s ++ drop (fullLength s) xs
 
 -- ---- the verdicts, in document 01's order
 
-abbrev pub lengthRow : Section → Verdict
-lengthRow s = refuse (ltb limit (sectionLength s)) sectionTooLong (sectionLength s) limit
+-- 28 and 29 of a section_length, and 27 of the length of a link's body
+abbrev pub lengthRow : ℕ → Verdict
+lengthRow len = refuse (ltb limit len) sectionTooLong len limit
 
-abbrev pub bodyRow : Link → Verdict
-bodyRow l = refuse (ltb longest (length (linkBody l))) bodyTooLong (length (linkBody l)) longest
+abbrev pub bodyRow : ℕ → Verdict
+bodyRow n = refuse (ltb longest n) bodyTooLong n longest
 
-abbrev pub roomRow : ℕ → Section → Verdict
-roomRow room s = refuse (ltb room (fullLength s)) noRoom (fullLength s) room
+abbrev pub roomRow : ℕ → ℕ → Verdict
+roomRow room len = refuse (ltb room (uncounted + len)) noRoom (uncounted + len) room
 
+-- 28, then 29: all that is asked where there is no link, and all that can be answered where there is one
+unfoldable pub roomRows : ℕ → ℕ → Verdict
+roomRows room len = lengthRow len ▷ roomRow room len
+
+-- 28, 27, 29 of the section s with the link l in it
 unfoldable pub roomVerdict : ℕ → Link → Section → Verdict
-roomVerdict room l s = lengthRow s ▷ bodyRow l ▷ roomRow room s
+roomVerdict room l s = lengthRow (sectionLength s) ▷ bodyRow (length (linkBody l)) ▷ roomRow room (sectionLength s)
 
--- there is no link k; there are as many links as can be
-abbrev pub numberRow : List ℕ → ℕ → Verdict
-numberRow xs k = refuse (leb (countAt xs) k) noSuchNumber k (countAt xs)
-
+-- there are as many links as can be
 abbrev pub countRow : List ℕ → Verdict
 countRow xs = refuse (leb mostLinks (countAt xs)) noMoreLinks mostLinks 0
 
@@ -74,14 +78,14 @@ unfoldable pub editVerdict : List ℕ → Verdict → Verdict → Link → Secti
 editVerdict xs row v l s = checked xs ▷ row ▷ v ▷ roomVerdict (length xs) l s
 
 unfoldable pub replaceVerdict : List ℕ → ℕ → Verdict → Link → Verdict
-replaceVerdict xs k v l = editVerdict xs (numberRow xs k) v l (put (sectionAt xs) k l)
+replaceVerdict xs k v l = editVerdict xs (numberRow xs k) v l (withLink (sectionAt xs) k l)
 
 unfoldable pub appendVerdict : List ℕ → Verdict → Link → Verdict
-appendVerdict xs v l = editVerdict xs (countRow xs) v l (grown (sectionAt xs) l)
+appendVerdict xs v l = editVerdict xs (countRow xs) v l (withNext (sectionAt xs) l)
 
 -- of a section with no links
 unfoldable pub makeVerdict : ℕ → Verdict → Section → Verdict
-makeVerdict room v s = v ▷ lengthRow s ▷ roomRow room s
+makeVerdict room v s = v ▷ roomRows room (sectionLength s)
 
 -- ---- the outcomes
 
@@ -90,16 +94,16 @@ pub record Outcome : Type 0 where
   pub total : ℕ
   pub buffer : List ℕ
 
--- fine: the total of s and the new buffer; refused: total 0 and the old one
-unfoldable pub done : Verdict → Section → List ℕ → List ℕ → Outcome
-done Fine s new old = record { verdict = Fine; total = fullLength s; buffer = new }
-done (Refused r) s new old = record { verdict = Refused r; total = 0; buffer = old }
+-- fine: the total and the new buffer; refused: total 0 and the old one
+unfoldable pub done : Verdict → ℕ → List ℕ → List ℕ → Outcome
+done Fine total new old = record { verdict = Fine; total = total; buffer = new }
+done (Refused r) total new old = record { verdict = Refused r; total = 0; buffer = old }
 
 unfoldable pub replaced : List ℕ → ℕ → Verdict → Link → Outcome
-replaced xs k v l = done (replaceVerdict xs k v l) (put (sectionAt xs) k l) (written xs (put (sectionAt xs) k l)) xs
+replaced xs k v l = done (replaceVerdict xs k v l) (fullLength (withLink (sectionAt xs) k l)) (written xs (withLink (sectionAt xs) k l)) xs
 
 unfoldable pub appended : List ℕ → Verdict → Link → Outcome
-appended xs v l = done (appendVerdict xs v l) (grown (sectionAt xs) l) (written xs (grown (sectionAt xs) l)) xs
+appended xs v l = done (appendVerdict xs v l) (fullLength (withNext (sectionAt xs) l)) (written xs (withNext (sectionAt xs) l)) xs
 
 unfoldable pub made : List ℕ → Verdict → Section → Outcome
-made xs v s = done (makeVerdict (length xs) v s) s (fresh xs s) xs
+made xs v s = done (makeVerdict (length xs) v s) (fullLength s) (fresh xs s) xs

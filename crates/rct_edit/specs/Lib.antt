@@ -1,6 +1,7 @@
 -- Making, appending and replacing, by the records; what is checked before a section is made; what the calls answer, and what
--- their steps leave.
+-- becomes of its head.
 pub mod Edit
 pub mod Answers
-pub mod Steps
+pub mod Rehead
 pub mod Making
+pub mod Calls

@@ -1,14 +1,34 @@
 // Making, appending and replacing in a lent buffer: what the calls answer, and the numbers that they share.
 ghost use mathlib.Core.Path.{_≡_};
 ghost use Rattle.rct_edit.specs.Edit.{mostLinks, filler};
+ghost use Rattle.rct_edit.specs.Answers.{refusedWith, acceptedWith};
 use wire::verdict::Verdict;
 
-pub mod steps;
+pub mod room;
 
 // What such a call answers: fine and the total of the new section, or the refusal and 0.
 pub struct Edited {
     pub verdict: Verdict,
     pub total: usize,
+}
+
+impl Edited {
+    // A verdict that refuses, with total 0.
+    pub fn refused(verdict: Verdict) -> Edited
+        ensures { λ e. ⌜ e ≡ refusedWith verdict ⌝ }
+    {
+        Edited { verdict, total: 0 }
+    }
+
+    // Fine, with the total.
+    pub fn accepted(total: usize) -> Edited
+        ensures { λ e. ⌜ e ≡ acceptedWith total ⌝ }
+    {
+        Edited {
+            verdict: Verdict::Fine,
+            total,
+        }
+    }
 }
 
 // The most links that the count's byte can tell.

@@ -6,53 +6,52 @@ use mathlib.Core.List.{List}
 use native.Mathlib.Omega.{arith}
 use lib.ListN.{length, take, replicate}
 use lib.Seq.{sets}
-use borrow.Author.Tests.{lt-ltb, le-leb, lt-leb}
+use borrow.Author.Tests.{le-leb, lt-leb}
 use Rattle.wire.specs.Lists.{Bytes, part}
-use Rattle.wire.specs.Lengths.{blockEnd}
 use Rattle.wire.specs.Numbers.{bytes32}
 use Rattle.wire.specs.Verdict.{bad, _▷_}
 use Rattle.wire.specs.declared.verdict.Refusal.{Refusal}
 use Rattle.wire.specs.declared.verdict.Verdict.{Verdict}
 use Rattle.wire.specs.declared.verdict.Verdict.the-variants.{Fine, Refused}
-use Rattle.wire.proofs.Verdicts.{then-fine, go-on, stop, refused-then, refused-row, fine-row, passed-ltb}
+use Rattle.wire.proofs.Verdicts.{then-fine, go-on, stop, refused-then, refused-row, fine-row}
 use Rattle.wire.proofs.Words.{length-bytes32}
+use Rattle.wire.specs.Refusals.{noSuchNumber, noMoreLinks}
 use Rattle.crc.specs.Crc.{crcOf}
 use Rattle.link.specs.Syntax.{Link}
 use Rattle.link.specs.Records.{linkOf}
 use Rattle.link.specs.declared.LinkInfo.{LinkInfo}
 use Rattle.link_draft.specs.Checks.{checkLink}
 use Rattle.link_draft.specs.Lengths.{linkLength}
-use Rattle.frame.specs.Frame.{uncounted, crcLength, totalOf, payloadEnd, opened}
 use Rattle.frame.proofs.Opening.{Opened, opened-fine}
-use Rattle.rct.specs.Syntax.{limit, rct, Section, sectionLength, fullLength}
-use Rattle.rct.specs.Reading.{countAt, linkPlace, loopPlace, sectionAt, reading, checked}
-use Rattle.rct.proofs.Checked.{count-is}
-use Rattle.rct_walker.specs.Places.{linkSpot, linkEndSpot}
-use Rattle.rct_walker.proofs.Entries.{Places}
-use Rattle.rct_edit.specs.Edit.{mostLinks, filler, put, grown, written, numberRow, countRow, roomVerdict, editVerdict, replaceVerdict, appendVerdict, Outcome, done, replaced, appended}
-use Rattle.rct_edit.specs.Answers.{refusedWith, outcome}
-use Rattle.rct_edit.specs.Steps.{rehead, roomRows, sealedAt}
+use Rattle.frame.specs.Syntax.{crcLength, uncounted}
+use Rattle.frame.specs.Reading.{checkedDemands, opened, payloadEnd, totalOf}
+use Rattle.rct.specs.Syntax.{rct, Section, sectionLength, fullLength}
+use Rattle.rct.specs.Reading.{numberRow, countAt, loopPlace, sectionAt, reading, checked}
+use Rattle.rct.proofs.Checked.{count-is, number-pass}
+use Rattle.rct_walker.proofs.Walks.{SpanOf}
+use Rattle.rct_edit.specs.Edit.{mostLinks, filler, withLink, withNext, written, countRow, roomRows, editVerdict, replaceVerdict, appendVerdict, Outcome, done, replaced, appended}
+use Rattle.rct_edit.specs.Answers.{refusedWith}
+use Rattle.rct_edit.specs.Rehead.{rehead}
+use Rattle.frame.specs.Ending.{sealedAt}
 use Rattle.rct_edit.proofs.Assembled.{Steps, new-end, assembled}
 use Rattle.rct_edit.proofs.Locality.{Splice, append-splice, replace-splice}
-use Rattle.rct_edit.proofs.Records.{length-put, length-grown}
+use Rattle.rct_edit.proofs.Records.{length-with, length-next}
 use Rattle.rct_edit.specs.declared.Edited.{Edited}
-use Rattle.rct_edit.proofs.Outcomes.{Came, outcome-stops, done-outcome}
-use Rattle.rct_editor.specs.Editing.{replacing, appending, filledUp, entryBytes, Spot, lengthBetween, spliced, finished, betweenVerdict, betweenBytes, between}
-use Rattle.rct_editor.proofs.Sizes.{body-size, entry-size}
+use Rattle.rct_edit.proofs.Outcomes.{Came, done-stops, room-passed}
+use Rattle.rct_edit.proofs.BodyRow.{replace-without-27, append-without-27}
+use Rattle.rct_editor.specs.Splicing.{filledUp, entryBytes, Spot, lengthBetween, spliced, finished, betweenVerdict, betweenBytes, between}
+use Rattle.rct_edit.specs.Calls.{replacing, appending}
+use Rattle.rct_editor.proofs.Sizes.{entry-size}
 
-module _ (xs : List ℕ) (o : Opened rct limit xs) (t : List ℕ) (k : LinkInfo) (s : Section) (p q count : ℕ) (sp : Splice xs s (linkOf t k) p q) (n : length (s .links) ≡ count) where
+module _ (xs : List ℕ) (o : Opened rct checkedDemands xs) (t : List ℕ) (k : LinkInfo) (s : Section) (p q count : ℕ) (sp : Splice xs s (linkOf t k) p q) (n : length (s .links) ≡ count) where
   -- of a record that passed its checks
   module _ (c : checkLink t k ≡ Fine) where
     length-same : lengthBetween xs p q (linkLength k) ≡ sectionLength s
     length-same = omega (arith, sp .sum, sp .ordered, sp .inside, entry-size t k c, o .large)
 
-    rows-same : roomRows (length xs) (linkLength k) (lengthBetween xs p q (linkLength k)) ≡ roomVerdict (length xs) (linkOf t k) s
-    unfolding roomRows roomVerdict
-    rows-same = rw (length-same, body-size t k c)
-
     bytes-same : fullLength s ≤ length xs → betweenBytes xs p q count t k ≡ written xs s
     unfolding betweenBytes finished spliced sealedAt filledUp
-    bytes-same r = rw (length-same, ← n) (assembled limit xs o s (linkOf t k) p q sp y1 y2 y3 y4 y5 r steps)
+    bytes-same r = rw (length-same, ← n) (assembled checkedDemands xs o s (linkOf t k) p q sp y1 y2 y3 y4 y5 r steps)
       where
         C : List ℕ
         C = entryBytes t k
@@ -79,13 +78,13 @@ module _ (xs : List ℕ) (o : Opened rct limit xs) (t : List ℕ) (k : LinkInfo)
         y5 = sets y4 (uncounted + sectionLength s) (replicate (totalOf xs - (uncounted + sectionLength s)) filler)
 
         end : e ≡ p + length C + length M
-        end = omega (arith, new-end limit xs o s (linkOf t k) p q sp)
+        end = omega (arith, new-end checkedDemands xs o s (linkOf t k) p q sp)
 
         W : List ℕ
         W = bytes32 (crcOf (take (p + length C + length M) y3))
 
         behind : uncounted + sectionLength s ≡ p + length C + length M + length W
-        behind = omega (arith, new-end limit xs o s (linkOf t k) p q sp, length-bytes32 (crcOf (take (p + length C + length M) y3)))
+        behind = omega (arith, new-end checkedDemands xs o s (linkOf t k) p q sp, length-bytes32 (crcOf (take (p + length C + length M) y3)))
 
         steps : Steps xs p (sectionLength s) (length (s .links)) C M W (replicate (totalOf xs - fullLength s) filler) y1 y2 y3 y4 y5
         steps = record {
@@ -98,78 +97,74 @@ module _ (xs : List ℕ) (o : Opened rct limit xs) (t : List ℕ) (k : LinkInfo)
 
   -- the outcomes by a verdict: of the numbers, and of the records
   abbrev byNumbers : Verdict → Outcome
-  byNumbers v = outcome v (uncounted + lengthBetween xs p q (linkLength k)) (betweenBytes xs p q count t k) xs
+  byNumbers v = done v (uncounted + lengthBetween xs p q (linkLength k)) (betweenBytes xs p q count t k) xs
 
   abbrev byRecords : Verdict → Outcome
-  byRecords v = outcome v (fullLength s) (written xs s) xs
+  byRecords v = done v (fullLength s) (written xs s) xs
 
-  room-same : checkLink t k ≡ Fine → (w : Verdict) → roomVerdict (length xs) (linkOf t k) s ≡ w → byNumbers w ≡ byRecords w
-  unfolding outcome roomVerdict
-  room-same c Fine e =
-      let a = then-fine _ _ e in
-      let b = then-fine _ _ (a .1) in
-      rw (length-same c, bytes-same c (passed-ltb _ _ _ _ _ (b .1)))
+  room-same : checkLink t k ≡ Fine → (w : Verdict) → roomRows (length xs) (sectionLength s) ≡ w → byNumbers w ≡ byRecords w
+  unfolding done
+  room-same c Fine e = rw (length-same c, bytes-same c (room-passed (length xs) (sectionLength s) e .enough))
   room-same c (Refused r) e = refl
 
   same-refused : (r : Refusal) → byNumbers (Refused r) ≡ byRecords (Refused r)
-  unfolding outcome
+  unfolding done
   same-refused r = refl
 
-  pub between-is : between xs p q count t k ≡ done (checkLink t k ▷ roomVerdict (length xs) (linkOf t k) s) s (written xs s) xs
+  pub between-is : between xs p q count t k ≡ byRecords (checkLink t k ▷ roomRows (length xs) (sectionLength s))
   unfolding between betweenVerdict
-  between-is = by (checkLink t k) refl ∙ sym (done-outcome (checkLink t k ▷ roomVerdict (length xs) (linkOf t k) s) s (written xs s) xs)
+  between-is = by (checkLink t k) refl
     where
       by : (v : Verdict) → checkLink t k ≡ v
-          → byNumbers (checkLink t k ▷ roomRows (length xs) (linkLength k) (lengthBetween xs p q (linkLength k)))
-          ≡ byRecords (checkLink t k ▷ roomVerdict (length xs) (linkOf t k) s)
+          → byNumbers (checkLink t k ▷ roomRows (length xs) (lengthBetween xs p q (linkLength k)))
+          ≡ byRecords (checkLink t k ▷ roomRows (length xs) (sectionLength s))
       by Fine c =
-          ap byNumbers (go-on (checkLink t k) _ c ∙ rows-same c)
-          ∙ room-same c (roomVerdict (length xs) (linkOf t k) s) refl
+          ap byNumbers (go-on (checkLink t k) _ c ∙ ap (roomRows (length xs)) (length-same c))
+          ∙ room-same c (roomRows (length xs) (sectionLength s)) refl
           ∙ ap byRecords (sym (go-on (checkLink t k) _ c))
       by (Refused r) c = ap byNumbers (refused-then (checkLink t k) _ r c) ∙ same-refused r ∙ ap byRecords (sym (refused-then (checkLink t k) _ r c))
 
 -- ---- what the checked reading found
 
-read-fine : (xs : List ℕ) → checked xs ≡ Fine → reading limit xs ≡ Fine
+read-fine : (xs : List ℕ) → checked xs ≡ Fine → reading checkedDemands xs ≡ Fine
 unfolding checked
-read-fine xs e = then-fine (reading limit xs) _ e .0
+read-fine xs e = then-fine (reading checkedDemands xs) _ e .0
 
-pub frame-fine : (xs : List ℕ) → checked xs ≡ Fine → Opened rct limit xs
+pub frame-fine : (xs : List ℕ) → checked xs ≡ Fine → Opened rct checkedDemands xs
 unfolding reading
-frame-fine xs e = opened-fine rct limit xs (then-fine (opened rct limit xs) _ (read-fine xs e) .0)
+frame-fine xs e = opened-fine rct checkedDemands xs (then-fine (opened rct checkedDemands xs) _ (read-fine xs e) .0)
 
-splice-spot : (xs : List ℕ) (s : Section) (l : Link) (p q : ℕ) → Opened rct limit xs → Splice xs s l p q → Spot xs p q
-splice-spot xs s l p q o sp = record { large = o .large; within = o .within; low = sp .low; ordered = sp .ordered; inside = sp .inside }
+splice-spot : (xs : List ℕ) (s : Section) (l : Link) (p q : ℕ) → Opened rct checkedDemands xs → Splice xs s l p q → Spot xs p q
+splice-spot xs s l p q o sp = record { large = o .large; within = o .within; limited = omega (arith, o .limited); low = sp .low; ordered = sp .ordered; inside = sp .inside }
 
 -- ---- appending
 
 module _ (xs : List ℕ) (t : List ℕ) (k : LinkInfo) where
   pub append-unread : (r : Refusal) (e : Edited) → checked xs ≡ Refused r → e ≡ refusedWith (Refused r) → Came (appending xs t k) e xs
   unfolding appending appended appendVerdict editVerdict
-  append-unread r e c a = rw (done-outcome (appendVerdict xs (checkLink t k) (linkOf t k)) (grown (sectionAt xs) (linkOf t k)) (written xs (grown (sectionAt xs) (linkOf t k))) xs) (outcome-stops _ _ _ xs r e (refused-then (checked xs) _ r c) a)
+  append-unread r e c a = done-stops _ _ _ xs r e (refused-then (checked xs) _ r c) a
 
   module _ (c : checked xs ≡ Fine) where
-    pub append-full : (e : Edited) → mostLinks ≤ countAt xs → e ≡ refusedWith (bad 30 mostLinks 0) → Came (appending xs t k) e xs
+    pub append-full : (e : Edited) → mostLinks ≤ countAt xs → e ≡ refusedWith (bad noMoreLinks mostLinks 0) → Came (appending xs t k) e xs
     unfolding appending appended appendVerdict editVerdict
     append-full e h a =
-        rw (done-outcome (appendVerdict xs (checkLink t k) (linkOf t k)) (grown (sectionAt xs) (linkOf t k)) (written xs (grown (sectionAt xs) (linkOf t k))) xs)
-        (outcome-stops _ _ _ xs _ e (go-on (checked xs) _ c ∙ stop (countRow xs) _ _ _ _ (refused-row _ _ _ _ (le-leb mostLinks (countAt xs) h))) a)
+        done-stops _ _ _ xs _ e (go-on (checked xs) _ c ∙ stop (countRow xs) _ _ _ _ (refused-row _ _ _ _ (le-leb mostLinks (countAt xs) h))) a
 
   -- the loop stands at q
-  module _ (p e q : ℕ) (f : Places (checked xs) (linkSpot xs 0) (linkEndSpot xs 0) (loopPlace xs) p e q) (b : Bytes xs) where
-    behind : Splice xs (grown (sectionAt xs) (linkOf t k)) (linkOf t k) q q
-    behind = rw (← f .loop-at) (append-splice limit xs b (read-fine xs (f .fine)) (omega arith) (linkOf t k))
+  module _ (c : checked xs ≡ Fine) (q : ℕ) (at : loopPlace xs ≡ q) (b : Bytes xs) where
+    behind : Splice xs (withNext (sectionAt xs) (linkOf t k)) (linkOf t k) q q
+    behind = rw (← at) (append-splice checkedDemands xs b (read-fine xs (c)) (omega arith) (linkOf t k))
 
     pub append-spot : Spot xs q q
-    append-spot = splice-spot xs _ (linkOf t k) _ _ (frame-fine xs (f .fine)) behind
+    append-spot = splice-spot xs _ (linkOf t k) _ _ (frame-fine xs c) behind
 
     pub append-is : countAt xs < mostLinks → between xs q q (countAt xs + 1) t k ≡ appending xs t k
-    unfolding appending appended appendVerdict editVerdict
+    unfolding appending appended
     append-is h =
-        between-is xs (frame-fine xs (f .fine)) t k (grown (sectionAt xs) (linkOf t k)) q q (countAt xs + 1)
-        behind (length-grown (sectionAt xs) (linkOf t k) ∙ ap (λ n. n + 1) (count-is xs))
-        ∙ ap (λ v. done v (grown (sectionAt xs) (linkOf t k)) (written xs (grown (sectionAt xs) (linkOf t k))) xs)
-        (sym (go-on (checked xs) _ (f .fine) ∙ go-on (countRow xs) _ (fine-row _ _ _ _ (lt-leb mostLinks (countAt xs) h))))
+        between-is xs (frame-fine xs c) t k (withNext (sectionAt xs) (linkOf t k)) q q (countAt xs + 1)
+        behind (length-next (sectionAt xs) (linkOf t k) ∙ ap (λ n. n + 1) (count-is xs))
+        ∙ ap (λ v. done v (fullLength (withNext (sectionAt xs) (linkOf t k))) (written xs (withNext (sectionAt xs) (linkOf t k))) xs)
+        (sym (append-without-27 xs (checkLink t k) (linkOf t k) ∙ go-on (checked xs) _ c ∙ go-on (countRow xs) _ (fine-row _ _ _ _ (lt-leb mostLinks (countAt xs) h))))
 
 -- ---- replacing
 
@@ -177,34 +172,26 @@ module _ (xs : List ℕ) (number : ℕ) (t : List ℕ) (k : LinkInfo) where
   pub replace-unread : (r : Refusal) (e : Edited) → checked xs ≡ Refused r → e ≡ refusedWith (Refused r) → Came (replacing xs number t k) e xs
   unfolding replacing replaced replaceVerdict editVerdict
   replace-unread r e c a =
-      rw (done-outcome (replaceVerdict xs number (checkLink t k) (linkOf t k)) (put (sectionAt xs) number (linkOf t k)) (written xs (put (sectionAt xs) number (linkOf t k))) xs)
-      (outcome-stops _ _ _ xs r e (refused-then (checked xs) _ r c) a)
+      done-stops _ _ _ xs r e (refused-then (checked xs) _ r c) a
 
   module _ (c : checked xs ≡ Fine) where
-    pub replace-none : (e : Edited) → countAt xs ≤ number → e ≡ refusedWith (bad 21 number (countAt xs)) → Came (replacing xs number t k) e xs
-    unfolding replacing replaced replaceVerdict editVerdict
+    pub replace-none : (e : Edited) → countAt xs ≤ number → e ≡ refusedWith (bad noSuchNumber number (countAt xs)) → Came (replacing xs number t k) e xs
+    unfolding replacing replaced replaceVerdict editVerdict numberRow
     replace-none e h a =
-        rw (done-outcome (replaceVerdict xs number (checkLink t k) (linkOf t k)) (put (sectionAt xs) number (linkOf t k)) (written xs (put (sectionAt xs) number (linkOf t k))) xs)
-        (outcome-stops _ _ _ xs _ e (go-on (checked xs) _ c ∙ stop (numberRow xs number) _ _ _ _ (refused-row _ _ _ _ (le-leb (countAt xs) number h))) a)
+        done-stops _ _ _ xs _ e (go-on (checked xs) _ c ∙ stop (numberRow xs number) _ _ _ _ (refused-row _ _ _ _ (le-leb (countAt xs) number h))) a
 
   -- there is such a link, and its entry stands from p to q
-  module _ (p q l : ℕ) (f : Places (checked xs) (linkSpot xs number) (linkEndSpot xs number) (loopPlace xs) p q l) (b : Bytes xs) (h : number < countAt xs) where
-    at : linkPlace xs number ≡ p
-    at = rw (lt-ltb number (countAt xs) h) at (f .link-at)
-
-    end : blockEnd xs (linkPlace xs number) ≡ q
-    end = rw (lt-ltb number (countAt xs) h) at (f .link-end)
-
-    inside : Splice xs (put (sectionAt xs) number (linkOf t k)) (linkOf t k) p q
-    inside = rw (← at, ← end) (replace-splice limit xs b (read-fine xs (f .fine)) (omega arith) number (linkOf t k) h)
+  module _ (c : checked xs ≡ Fine) (p q : ℕ) (f : SpanOf xs number p q) (b : Bytes xs) (h : number < countAt xs) where
+    inside : Splice xs (withLink (sectionAt xs) number (linkOf t k)) (linkOf t k) p q
+    inside = rw (← f .start, ← f .end) (replace-splice checkedDemands xs b (read-fine xs (c)) (omega arith) number (linkOf t k) h)
 
     pub replace-spot : Spot xs p q
-    replace-spot = splice-spot xs _ (linkOf t k) _ _ (frame-fine xs (f .fine)) inside
+    replace-spot = splice-spot xs _ (linkOf t k) _ _ (frame-fine xs c) inside
 
     pub replace-is : between xs p q (countAt xs) t k ≡ replacing xs number t k
-    unfolding replacing replaced replaceVerdict editVerdict
+    unfolding replacing replaced
     replace-is =
-        between-is xs (frame-fine xs (f .fine)) t k (put (sectionAt xs) number (linkOf t k)) p q (countAt xs)
-        inside (length-put (sectionAt xs) number (linkOf t k) ∙ count-is xs)
-        ∙ ap (λ v. done v (put (sectionAt xs) number (linkOf t k)) (written xs (put (sectionAt xs) number (linkOf t k))) xs)
-        (sym (go-on (checked xs) _ (f .fine) ∙ go-on (numberRow xs number) _ (fine-row _ _ _ _ (lt-leb (countAt xs) number h))))
+        between-is xs (frame-fine xs c) t k (withLink (sectionAt xs) number (linkOf t k)) p q (countAt xs)
+        inside (length-with (sectionAt xs) number (linkOf t k) ∙ count-is xs)
+        ∙ ap (λ v. done v (fullLength (withLink (sectionAt xs) number (linkOf t k))) (written xs (withLink (sectionAt xs) number (linkOf t k))) xs)
+        (sym (replace-without-27 xs number (checkLink t k) (linkOf t k) ∙ go-on (checked xs) _ c ∙ go-on (numberRow xs number) _ (number-pass xs number h)))

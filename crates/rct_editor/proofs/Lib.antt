@@ -3,7 +3,4 @@ pub mod Outcomes
 pub mod Sizes
 pub mod Stores
 pub mod Between
-pub mod Again
-pub mod Never
-pub mod Demands
 pub mod Unique

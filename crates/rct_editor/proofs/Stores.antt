@@ -8,26 +8,31 @@ use native.Mathlib.Omega.{arith}
 use lib.ListN.{length, take, drop, getD, set, replicate, length-set, length-replicate, replicate-append-replicate}
 use lib.Seq.{sets, length-sets}
 use borrow.Author.Tests.{le-leb}
+use Rattle.frame.specs.Syntax.{crcLength, uncounted}
+use Rattle.frame.specs.Reading.{payloadEnd, totalOf}
 use Rattle.wire.specs.Choice.{pick}
 use Rattle.wire.specs.Lists.{part}
 use Rattle.wire.specs.Lengths.{longest, widestBeside, lengthBytes, besideAt, blockBytes}
 use Rattle.wire.specs.Stores.{roomAt, putAt, Wrote}
 use Rattle.wire.specs.declared.verdict.Verdict.the-variants.{Fine}
-use Rattle.wire.proofs.Parts.{length-part}
-use Rattle.wire.proofs.Writing.{sets-append, sets-take, then, wrote-length}
+use Rattle.wire.proofs.Lists.{length-part}
+use Rattle.wire.proofs.Writing.{sets-append, sets-take, then, wrote-length, copied, field-whole, field-put}
 use Rattle.link.specs.Syntax.{linkBody}
 use Rattle.link.specs.Records.{linkOf}
 use Rattle.link.specs.declared.LinkInfo.{LinkInfo}
+use Rattle.field.specs.Fields.{low, linkLengthReserved}
+use Rattle.field.proofs.Checks.{low-whole}
 use Rattle.link_draft.specs.Checks.{checkLink}
 use Rattle.link_draft.specs.Lengths.{linkLength}
-use Rattle.link_draft.specs.Writing.{putBy, linkPut}
+use Rattle.link_draft.specs.Writing.{linkPut}
+use Rattle.link_draft.proofs.Written.{written-body}
 use Rattle.link_draft.proofs.Exact.{passed}
-use Rattle.link_draft.proofs.Putting.{copied}
-use Rattle.frame.specs.Frame.{uncounted, crcLength, totalOf, payloadEnd}
 use Rattle.rct_edit.specs.Edit.{filler}
-use Rattle.rct_edit.specs.Steps.{rehead, sealAt, sealEnd}
-use Rattle.rct_edit.proofs.Stores.{sealed-room, field-whole, field-put}
-use Rattle.rct_editor.specs.Editing.{filledUp, entryBytes, lengthBetween, spliced, finished, betweenBytes}
+use Rattle.rct_edit.specs.Rehead.{rehead}
+use Rattle.frame.specs.Ending.{sealAt, sealEnd}
+use Rattle.frame.proofs.Endings.{sealed-room}
+use Rattle.rct.specs.Syntax.{linkCountPlace}
+use Rattle.rct_editor.specs.Splicing.{filledUp, entryBytes, lengthBetween, spliced, finished, betweenBytes}
 use Rattle.rct_editor.proofs.Sizes.{body-size, entry-size}
 
 -- ---- filler
@@ -82,25 +87,25 @@ moved xs zs cs ys p q n hp hq c y hz =
 -- ---- a link's entry
 
 pub entry-put : (xs ys zs bs : List ℕ) (at n : ℕ) (t : List ℕ) (k : LinkInfo) → checkLink t k ≡ Fine → linkLength k ≤ longest → at + 2 + linkLength k ≤ length xs → n ≡ linkLength k
-    → bs ≡ lengthBytes (k .«reserved_link_info_length» % 16) (n % 4096) → ys ≡ putAt xs at bs → zs ≡ linkPut ys (at + 2) t k
+    → bs ≡ lengthBytes (low linkLengthReserved (k .fields .«reserved_link_info_length») % (widestBeside + 1)) (n % (longest + 1)) → ys ≡ putAt xs at bs → zs ≡ linkPut ys (at + 2) t k
     → zs ≡ sets xs at (entryBytes t k)
-unfolding blockBytes linkOf linkPut putBy
+unfolding blockBytes linkOf
 entry-put xs ys zs bs at n t k c l r is b p w =
-    then head body .bytes ∙ ap (λ n. sets xs at (lengthBytes (k .«reserved_link_info_length») n ++ linkBody (linkOf t k))) (sym (body-size t k c))
+    then head body .bytes ∙ ap (λ n. sets xs at (lengthBytes (k .fields .«reserved_link_info_length») n ++ linkBody (linkOf t k))) (sym (body-size t k c))
   where
-    head : Wrote xs at (lengthBytes (k .«reserved_link_info_length») (linkLength k)) ys (at + 2)
-    head = field-put xs ys bs at (k .«reserved_link_info_length») (linkLength k) (passed t k c .end .beside) l (omega arith) (b ∙ ap (λ m. lengthBytes (k .«reserved_link_info_length» % 16) (m % 4096)) is) p
+    head : Wrote xs at (lengthBytes (k .fields .«reserved_link_info_length») (linkLength k)) ys (at + 2)
+    head = field-put xs ys bs at (k .fields .«reserved_link_info_length») (linkLength k) (passed t k c .end .beside) l (omega arith) (b ∙ ap (λ m. lengthBytes (low linkLengthReserved (k .fields .«reserved_link_info_length») % (widestBeside + 1)) (m % (longest + 1))) is ∙ ap (λ r. lengthBytes (r % (widestBeside + 1)) (linkLength k % (longest + 1))) (low-whole linkLengthReserved (k .fields .«reserved_link_info_length») (passed t k c .end .beside))) p
 
     room : at + 2 + linkLength k ≤ length ys
     room = omega (arith, wrote-length head)
 
     body : Wrote ys (at + 2) (linkBody (linkOf t k)) zs (at + 2 + linkLength k)
-    body = record { bytes = w ∙ rw (c, le-leb _ _ room); place = omega (arith, body-size t k c) }
+    body = record { bytes = w ∙ written-body ys (at + 2) t k c room; place = omega (arith, body-size t k c) }
 
 -- ---- the head's numbers
 
-pub numbers-put : (xs bs : List ℕ) (len count : ℕ) → besideAt xs 1 ≤ widestBeside → len ≤ longest → bs ≡ lengthBytes (besideAt xs 1 % 16) (len % 4096)
-    → set (set (set xs 1 (getD bs 0 0)) 2 (getD bs 1 0)) 10 count ≡ rehead xs len count
+pub numbers-put : (xs bs : List ℕ) (len count : ℕ) → besideAt xs 1 ≤ widestBeside → len ≤ longest → bs ≡ lengthBytes (besideAt xs 1 % (widestBeside + 1)) (len % (longest + 1))
+    → set (set (set xs 1 (getD bs 0 0)) 2 (getD bs 1 0)) linkCountPlace count ≡ rehead xs len count
 unfolding rehead lengthBytes
 numbers-put xs bs len count h l b = rw (b ∙ field-whole (besideAt xs 1) len h l)
 

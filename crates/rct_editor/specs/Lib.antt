@@ -1,3 +1,2 @@
--- Appending and replacing as the code's calls: of the records that they are handed.
-pub mod Editing
-pub mod Again
+-- The code's own stages of appending and replacing.
+pub mod Splicing

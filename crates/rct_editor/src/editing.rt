@@ -1,13 +1,14 @@
 // Appending a link to a section in a lent buffer, and replacing one of its links.
 ghost use mathlib.Core.Path.{_≡_};
-ghost use Rattle.rct_edit.specs.Answers.{answer};
-ghost use Rattle.rct_editor.specs.Editing.{appending, replacing};
+ghost use Rattle.wire.specs.Refusals.{noSuchNumber};
+ghost use Rattle.wire.specs.Verdict.{bad};
+ghost use Rattle.rct_edit.specs.Answers.{answer, refusedWith};
+ghost use Rattle.rct_edit.specs.Calls.{appending, replacing};
 use crate::splicing;
 use link::LinkInfo;
-use rct::RctHeader;
 use rct_edit::Edited;
-use rct_edit::steps;
-use rct_walker::Located;
+use rct_walker::LinkSpan;
+use rct_walker::RctWalked;
 use wire::verdict::Refusal;
 use wire::verdict::Verdict;
 
@@ -16,24 +17,21 @@ pub fn append(b: &mut [u8], text: &[u8], link: LinkInfo) -> Edited
     ensures { λ r. ⌜ r ≡ answer (appending (now (b .entry)) (now (text .entry)) link) ⌝ }
     ensures { λ r. ⌜ now (b .exit) ≡ appending (now (b .entry)) (now (text .entry)) link .buffer ⌝ }
 {
-    let located = rct_walker::locate(b, 0);
-    match located {
-        Located::Refused(refusal) => steps::refused(Verdict::Refused(refusal)),
-        Located::At {
-            link_at: _,
-            link_end: _,
-            loop_at,
-        } => {
-            let count = wire::wide(b[RctHeader::COUNT_AT]);
+    let walked = rct_walker::checked_places(b, 0);
+    match walked {
+        RctWalked::Read(places) => {
+            let at = places.loop_at;
+            let count = places.count;
             if rct_edit::most_links() <= count {
-                return steps::refused(Verdict::Refused(Refusal {
+                return Edited::refused(Verdict::Refused(Refusal {
                     number: Refusal::NO_MORE_LINKS,
                     first: rct_edit::most_links(),
                     second: 0,
                 }));
             }
-            splicing::put_between(b, loop_at, loop_at, count + 1, text, link)
+            splicing::put_between(b, places.total, at, at, count + 1, text, link)
         }
+        RctWalked::Refused(r) => Edited::refused(Verdict::Refused(r)),
     }
 }
 
@@ -42,23 +40,31 @@ pub fn replace(b: &mut [u8], number: usize, text: &[u8], link: LinkInfo) -> Edit
     ensures { λ r. ⌜ r ≡ answer (replacing (now (b .entry)) number (now (text .entry)) link) ⌝ }
     ensures { λ r. ⌜ now (b .exit) ≡ replacing (now (b .entry)) number (now (text .entry)) link .buffer ⌝ }
 {
-    let located = rct_walker::locate(b, number);
-    match located {
-        Located::Refused(r) => steps::refused(Verdict::Refused(r)),
-        Located::At {
-            link_at,
-            link_end,
-            loop_at: _,
-        } => {
-            let count = wire::wide(b[RctHeader::COUNT_AT]);
+    let walked = rct_walker::checked_places(b, number);
+    match walked {
+        RctWalked::Read(places) => {
+            let count = places.count;
             if count <= number {
-                return steps::refused(Verdict::Refused(Refusal {
-                    number: Refusal::NO_SUCH_NUMBER,
-                    first: number,
-                    second: count,
-                }));
+                return no_such(number, count);
             }
-            splicing::put_between(b, link_at, link_end, count, text, link)
+            let span = places.link;
+            match span {
+                LinkSpan::At { start, end } => {
+                    splicing::put_between(b, places.total, start, end, count, text, link)
+                }
+                LinkSpan::NoSuchLink => no_such(number, count),
+            }
         }
+        RctWalked::Refused(r) => Edited::refused(Verdict::Refused(r)),
     }
+}
+
+fn no_such(number: usize, count: usize) -> Edited
+    ensures { λ r. ⌜ r ≡ refusedWith (bad noSuchNumber number count) ⌝ }
+{
+    Edited::refused(Verdict::Refused(Refusal {
+        number: Refusal::NO_SUCH_NUMBER,
+        first: number,
+        second: count,
+    }))
 }

@@ -8,72 +8,58 @@ ghost use Rattle.wire.specs.Lengths.{longest};
 ghost use Rattle.wire.specs.declared.verdict.Verdict.the-variants.{Fine};
 ghost use Rattle.link_draft.specs.Checks.{checkLink};
 ghost use Rattle.link_draft.specs.Lengths.{linkLength};
+ghost use Rattle.frame.specs.Reading.{totalOf};
+ghost use Rattle.rct.specs.Syntax.{linkCountPlace};
 ghost use Rattle.rct_edit.specs.Edit.{mostLinks};
-ghost use Rattle.rct_edit.specs.Steps.{rehead};
+ghost use Rattle.rct_edit.specs.Rehead.{rehead};
 ghost use Rattle.rct_edit.specs.Answers.{answer};
-ghost use Rattle.rct_editor.specs.Editing.{filledUp, entryBytes, Spot, Fitting, largest, spliced, between};
+ghost use Rattle.rct_editor.specs.Splicing.{filledUp, entryBytes, Spot, largest, between};
+use field::Field;
+use frame::Demands;
 use frame::Table;
 use link::LinkInfo;
-use link_draft::lengths;
 use rct::RctHeader;
 use rct_edit::Edited;
-use rct_edit::steps;
+use rct_edit::room::check_room;
 use wire::lengths::LengthField;
 use wire::verdict::Verdict;
 
 // The most bytes of a section.
-const LARGEST: usize = Table::UNCOUNTED + RctHeader::LIMIT;
+const LARGEST: usize = Table::UNCOUNTED + Demands::LIMIT;
 
-// Puts the link in place of what lies between `from` and `to`, if its record passes its checks and the section has room.
+// Puts the link in place of what lies between `from` and `to` of a section of `total` bytes, if its record passes its
+// checks and the section has room.
 pub(crate) fn put_between(
     b: &mut [u8],
+    total: usize,
     from: usize,
     to: usize,
     count: usize,
     text: &[u8],
     link: LinkInfo,
 ) -> Edited
-    requires { ⌜ Spot (now b) from to × (count ≤ mostLinks) ⌝ }
+    requires { ⌜ Spot (now b) from to × ((total ≡ totalOf (now b)) × (count ≤ mostLinks)) ⌝ }
     ensures { λ r. ⌜ r ≡ answer (between (now (b .entry)) from to count (now (text .entry)) link) ⌝ }
     ensures { λ r. ⌜ now (b .exit) ≡ between (now (b .entry)) from to count (now (text .entry)) link .buffer ⌝ }
 {
     let own = link_checker::check_link(text, link);
-    let Verdict::Fine = own else {
-        return steps::refused(own);
+    let verdict = own.verdict;
+    let Verdict::Fine = verdict else {
+        return Edited::refused(verdict);
     };
-    let total = frame::total(b[1], b[2]);
-    let body = lengths::link_length(link);
+    let body = own.length;
     let section_length = total - Table::UNCOUNTED - (to - from) + LengthField::BYTES + body;
-    let room = steps::check_room(b.len(), body, section_length);
+    let room = check_room(b.len(), section_length);
     let Verdict::Fine = room else {
-        return steps::refused(room);
+        return Edited::refused(room);
     };
-    splice(b, from, to, section_length, count, text, link);
-    let new = steps::seal(b, frame::payload_end(Table::UNCOUNTED + section_length));
-    fill(b, new, total);
-    steps::accepted(new)
-}
-
-// The move, the entry and the head's numbers of an edit that is accepted.
-fn splice(
-    b: &mut [u8],
-    from: usize,
-    to: usize,
-    section_length: usize,
-    count: usize,
-    text: &[u8],
-    link: LinkInfo,
-)
-    requires { ⌜ Spot (now b) from to × ((count ≤ mostLinks) × Fitting (now b) from to (now text) link «section_length») ⌝ }
-    ensures { λ r. ⌜ now (b .exit) ≡ spliced (now (b .entry)) from to (entryBytes (now (text .entry)) link) «section_length» count ⌝ }
-{
-    let total = frame::total(b[1], b[2]);
-    let body = lengths::link_length(link);
     let behind = from + LengthField::BYTES + body;
-    let end = frame::payload_end(total);
-    move_tail(b, to, behind, end - to);
-    put_entry(b, from, text, link);
+    move_tail(b, to, behind, frame::payload_end(total) - to);
+    put_entry(b, from, body, text, link);
     put_numbers(b, section_length, count);
+    let new = frame::ending::seal(b, frame::payload_end(Table::UNCOUNTED + section_length));
+    fill(b, new, total);
+    Edited::accepted(new)
 }
 
 // The `n` bytes at `from` go to `to`, by way of a copy.
@@ -88,22 +74,22 @@ fn move_tail(b: &mut [u8], from: usize, to: usize, n: usize)
 }
 
 // The entry of a record that passed its checks: its length with the four bits, then the body.
-fn put_entry(b: &mut [u8], at: usize, text: &[u8], link: LinkInfo)
-    requires { ⌜ (checkLink (now text) link ≡ Fine) × ((linkLength link ≤ longest) × (at + 2 + linkLength link ≤ length (now b))) ⌝ }
+fn put_entry(b: &mut [u8], at: usize, body: usize, text: &[u8], link: LinkInfo)
+    requires { ⌜ (checkLink (now text) link ≡ Fine) × ((body ≡ linkLength link) × ((body ≤ longest) × (at + 2 + body ≤ length (now b)))) ⌝ }
     ensures { λ r. ⌜ now (b .exit) ≡ sets (now (b .entry)) at (entryBytes (now (text .entry)) link) ⌝ }
 {
     let field = LengthField {
-        beside: link.reserved_link_info_length as u8,
-        length: lengths::link_length(link),
+        beside: Field::LINK_LENGTH_RESERVED.low(link.fields.reserved_link_info_length) as u8,
+        length: body,
     };
     let bytes = field.to_bytes();
     wire::put_at(b, at, &bytes);
-    link_writer::write_link(b, at + LengthField::BYTES, text, link);
+    link_writer::put_link(b, at + LengthField::BYTES, text, link);
 }
 
 // section_length anew, the four bits beside it kept, and the number of links.
 fn put_numbers(b: &mut [u8], section_length: usize, count: usize)
-    requires { ⌜ (10 < length (now b)) × ((«section_length» ≤ longest) × (count ≤ mostLinks)) ⌝ }
+    requires { ⌜ (linkCountPlace < length (now b)) × ((«section_length» ≤ longest) × (count ≤ mostLinks)) ⌝ }
     ensures { λ r. ⌜ now (b .exit) ≡ rehead (now (b .entry)) «section_length» count ⌝ }
 {
     let old = LengthField::of_bytes(b[1], b[2]);

@@ -1,3 +1,7 @@
--- The laws of links and items by number and of the parts, and that each public contract leaves one outcome.
+-- The laws of links and items by number, and that each public contract leaves one outcome.
 pub mod Numbers
+pub mod Images
+pub mod Rows
+pub mod Listed
+pub mod Order
 pub mod Unique

@@ -1,94 +1,159 @@
--- What link by number, item by number and the parts answer, case by case, over plain lists.
+-- What link by number and item by number answer, case by case, over plain lists, and what an accepted section leaves known of link k.
 -- Assumes nothing.
-use mathlib.Core.Path.{_≡_, refl, _∙_}
-use Prim.Native.Nat.{ℕ, _+_, _-_, _≤_}
+use mathlib.Core.Path.{_≡_, refl, sym, ap, _∙_}
+use Prim.Native.Nat.{ℕ, _+_, _≤_, _<_}
 use native.Mathlib.Omega.{arith}
 use mathlib.Core.List.{List}
-use lib.ListN.{length, take, drop}
-use borrow.Author.Tests.{le-leb, lt-ltb}
-use Rattle.wire.specs.Lists.{Bytes, within}
-use Rattle.wire.specs.Lengths.{longest, lengthAt, besideAt, blockEnd}
-use Rattle.wire.specs.Verdict.{bad, refuse}
+use lib.ListN.{length, getD}
+use borrow.Author.Tests.{le-leb}
+use Rattle.wire.specs.Lists.{Bytes, part}
+use Rattle.wire.specs.Lengths.{lengthAt, besideAt, blockEnd}
+use Rattle.wire.specs.Refusals.{noSuchNumber}
+use Rattle.wire.specs.Spans.{span, spanOf, spanIn}
+use Rattle.wire.specs.Verdict.{bad, _▷_}
 use Rattle.wire.specs.declared.verdict.Refusal.{Refusal}
 use Rattle.wire.specs.declared.verdict.Verdict.{Verdict}
 use Rattle.wire.specs.declared.verdict.Verdict.the-variants.{Fine, Refused}
-use Rattle.wire.proofs.Verdicts.{go-on, refused-then, refused-row}
-use Rattle.link.specs.Reading.{bodyVerdict, itemCount}
-use Rattle.link.specs.Records.{linkRead, itemRows, itemAnswer, itemRead}
-use Rattle.link.specs.Parts.{span}
+use Rattle.wire.proofs.SpanLaws.{span-inside}
+use Rattle.wire.proofs.Verdicts.{then-fine, fine-then, go-on, refused-then, refused-row, passed-leb, pass-leb}
+use Rattle.link.specs.Syntax.{Link}
+use Rattle.link.specs.Reading.{bodyVerdict}
+use Rattle.link.specs.Answers.{linkRead, linkAnswer, notRead, itemRow, itemRows, itemAnswer, itemRead}
 use Rattle.link.specs.declared.reading.ItemRead.the-variants as item
-use Rattle.rct.specs.Reading.{bodyIn, countAt, linkPlace, loopPlace, plain}
+use Rattle.frame.specs.Syntax.{longestPayload}
+use Rattle.frame.specs.Reading.{payloadEnd, plainDemands}
+use Rattle.rct.specs.Syntax.{headLength}
+use Rattle.rct.specs.Reading.{bodyIn, linkIn, countAt, linkPlace, sectionAt, plain, numberRow}
 use Rattle.rct.proofs.Accepted.{accepted}
-use Rattle.rct_walker.specs.Places.{linkSpot, linkEndSpot, located}
-use Rattle.rct_walker.specs.Sections.{sectionRead}
-use Rattle.rct_walker.specs.Links.{linkRows, numberedLink, itemRow, numberedItem}
-use Rattle.rct_walker.specs.Parts.{bodySpan}
-use Rattle.rct_walker.specs.declared.RctSection.{RctSection}
-use Rattle.rct_walker.specs.declared.Located.the-variants as spot
-use Rattle.rct_walker.proofs.Entries.{located-at}
-use Rattle.rct_walker.proofs.Numbers.{link-known}
+use Rattle.rct.proofs.Links.{found}
+use Rattle.rct_walker.specs.Places.{linkSpan, placesAt}
+use Rattle.rct_walker.proofs.Walks.{span-known, span-absent}
+use Rattle.rct_walker.specs.declared.RctPlaces.{RctPlaces}
+use Rattle.rct_walker.specs.declared.LinkSpan.the-variants as spot
+use Rattle.rct_links.specs.Links.{linkRows, bodyPlace, bodyOf, bodyAnswer, numberedBody, entryInfo, numberedLink, numberedItem}
+use Rattle.rct_links.specs.declared.NumberedBody.{NumberedBody}
 
--- ---- the places of link k
+-- ---- the rows of link k
 
 module _ (xs : List ℕ) (k : ℕ) where
   pub rows-stop : (r : Refusal) → plain xs ≡ Refused r → linkRows xs k ≡ Refused r
   unfolding linkRows
   rows-stop r v = refused-then _ _ r v
 
-  pub rows-21 : plain xs ≡ Fine → countAt xs ≤ k → linkRows xs k ≡ bad 21 k (countAt xs)
-  unfolding linkRows
+  pub rows-21 : plain xs ≡ Fine → countAt xs ≤ k → linkRows xs k ≡ bad noSuchNumber k (countAt xs)
+  unfolding linkRows numberRow
   rows-21 v h = go-on _ _ v ∙ refused-row _ _ _ _ (le-leb _ _ h)
 
--- what is known of a link that was found from p to q
-pub record Numbered (xs : List ℕ) (k p q : ℕ) : Type 0 where
+  pub rows-fine : plain xs ≡ Fine → k < countAt xs → linkRows xs k ≡ Fine
+  unfolding linkRows numberRow
+  rows-fine v h = fine-then _ _ v (pass-leb (countAt xs) k _ _ _ h)
+
+pub record LinkKnown (xs : List ℕ) (k : ℕ) : Type 0 where
+  pub plainly : plain xs ≡ Fine
+  pub below : k < countAt xs
+  pub good : bodyVerdict (bodyOf xs k) ≡ Fine
+  pub within : blockEnd xs (linkPlace xs k) ≤ payloadEnd xs
+  pub end : payloadEnd xs ≤ length xs
+  pub short : payloadEnd xs ≤ longestPayload
+  pub link : (d : Link) → getD (sectionAt xs .links) k d ≡ linkIn xs (linkPlace xs k)
+
+pub link-known : (xs : List ℕ) (k : ℕ) → Bytes xs → linkRows xs k ≡ Fine → LinkKnown xs k
+unfolding linkRows numberRow sectionAt
+link-known xs k b v =
+    let two = then-fine (plain xs) _ v in
+    let h : k < countAt xs = passed-leb (countAt xs) k _ _ _ (two .1) in
+    let a = accepted plainDemands xs b (two .0) in
+    let f = found (countAt xs) k xs (payloadEnd xs) headLength b (omega arith) (a .links-fine) h in
+    record { plainly = two .0; below = h; good = f .good; within = f .within; end = omega arith; short = omega arith; link = f .link }
+
+-- ---- the body of link k
+
+-- what the walk's places say of a link that there is
+pub record AtKnown (xs : List ℕ) (k p : ℕ) : Type 0 where
   pub rows : linkRows xs k ≡ Fine
   pub place : linkPlace xs k ≡ p
-  pub good : bodyVerdict (bodyIn xs (linkPlace xs k)) ≡ Fine
-  pub behind : p + 2 ≤ q
-  pub size : q - (p + 2) ≡ lengthAt xs p
-  pub within : q ≤ length xs
-  pub short : q ≤ 4094
+  pub within : p + 2 ≤ length xs
+  pub short : p ≤ longestPayload
 
-pub number-known : (xs : List ℕ) (k p q l : ℕ) → Bytes xs → located (linkRows xs k) (linkSpot xs k) (linkEndSpot xs k) (loopPlace xs) ≡ spot.At p q l → Numbered xs k p q
-number-known xs k p q l b e =
-    let f = located-at _ _ _ _ _ _ _ e in
-    let n = link-known xs k b (f .fine) in
-    let o = lt-ltb k (countAt xs) (n .below) in
-    let at : linkPlace xs k ≡ p = rw o at (f .link-at) in
-    let end : blockEnd xs (linkPlace xs k) ≡ q = rw o at (f .link-end) in
-    let end′ : blockEnd xs p ≡ q = rw at at end in
-    record { rows = f .fine; place = at; good = n .good; behind = omega arith; size = omega arith; within = omega (arith, n .within, n .end); short = omega (arith, n .within, n .short) }
+module _ (xs : List ℕ) (k : ℕ) (n : RctPlaces) (is : n ≡ placesAt xs k) (v : plain xs ≡ Fine) where
+  counted : n .count ≡ countAt xs
+  counted = ap (λ (m : RctPlaces). m .count) is
 
--- ---- link and item by number, from what is read of the part that is the body
+  spanned : n .link ≡ linkSpan xs k
+  spanned = ap (λ (m : RctPlaces). m .link) is
 
-module _ (xs : List ℕ) (k p q : ℕ) (n : Numbered xs k p q) where
-  pub number-link : linkRead (p + 2) (besideAt xs p) (take (q - (p + 2)) (drop (p + 2) xs)) ≡ numberedLink xs k
+  pub at-known : (p q : ℕ) → Bytes xs → k < n .count → n .link ≡ spot.At p q → AtKnown xs k p
+  at-known p q b h e =
+      let below : k < countAt xs = omega (arith, counted) in
+      let rows = rows-fine xs k v below in
+      let l = link-known xs k b rows in
+      let at = span-known xs k p q below (sym spanned ∙ e) .start in
+      record { rows = rows; place = at; within = omega (arith, at, l .within, l .end); short = omega (arith, at, l .within, l .short) }
+
+  pub at-21 : n .count ≤ k → linkRows xs k ≡ bad noSuchNumber k (n .count)
+  at-21 h = rows-21 xs k v (omega (arith, counted)) ∙ rw counted
+
+  pub at-never : k < n .count → n .link ≡ spot.NoSuchLink → ⊥
+  at-never h e = span-absent xs k (sym spanned ∙ e) (omega (arith, counted))
+
+module _ (xs : List ℕ) (k : ℕ) where
+  pub body-refused : (r : Refusal) → linkRows xs k ≡ Refused r → bodyAnswer (Refused r) 0 0 0 ≡ numberedBody xs k
+  unfolding numberedBody bodyAnswer
+  body-refused r v = rw v
+
+  pub body-found : (r p n : ℕ) → linkRows xs k ≡ Fine → r ≡ besideAt xs (linkPlace xs k) → p ≡ bodyPlace xs k → n ≡ lengthAt xs (linkPlace xs k)
+      → record { verdict = Fine; reserved = r; body = span p n } ≡ numberedBody xs k
+  unfolding numberedBody bodyAnswer
+  body-found r p n v a b c = rw (v, a, b, c)
+
+  pub body-verdict : numberedBody xs k .verdict ≡ linkRows xs k
+  unfolding numberedBody bodyAnswer
+  body-verdict = go (linkRows xs k)
+    where
+      go : (v : Verdict) → bodyAnswer v (besideAt xs (linkPlace xs k)) (bodyPlace xs k) (lengthAt xs (linkPlace xs k)) .verdict ≡ v
+      go Fine = refl
+      go (Refused r) = refl
+
+-- what a body that was found says
+pub record BodyKnown (xs : List ℕ) (k : ℕ) (n : NumberedBody) : Type 0 where
+  pub rows : linkRows xs k ≡ Fine
+  pub reserved : n .reserved ≡ besideAt xs (linkPlace xs k)
+  pub start : n .body .start ≡ bodyPlace xs k
+  pub short : n .body .start ≤ 65535
+  pub good : bodyVerdict (bodyOf xs k) ≡ Fine
+  pub bytes : spanOf xs (spanIn xs (n .body)) ≡ bodyOf xs k
+
+pub body-known : (xs : List ℕ) (k : ℕ) (n : NumberedBody) → Bytes xs → n ≡ numberedBody xs k → n .verdict ≡ Fine → BodyKnown xs k n
+unfolding numberedBody bodyAnswer
+body-known xs k n b e v =
+    let rows : linkRows xs k ≡ Fine = sym (body-verdict xs k) ∙ sym (ap (λ (m : NumberedBody). m .verdict) e) ∙ v in
+    let l = link-known xs k b rows in
+    let is : n ≡ record { verdict = Fine; reserved = besideAt xs (linkPlace xs k); body = span (bodyPlace xs k) (lengthAt xs (linkPlace xs k)) } = e ∙ rw rows in
+    let start : n .body .start ≡ bodyPlace xs k = ap (λ (m : NumberedBody). m .body .start) is in
+    record {
+      rows = rows;
+      reserved = ap (λ (m : NumberedBody). m .reserved) is;
+      start = start;
+      short = omega (arith, start, l .within, l .short);
+      good = l .good;
+      bytes = rw is (ap (spanOf xs) (span-inside xs (span (bodyPlace xs k) (lengthAt xs (linkPlace xs k))) (omega (arith, l .within, l .end))));
+    }
+
+-- ---- link and item by number, from what is read of the body
+
+module _ (xs : List ℕ) (k : ℕ) (n : NumberedBody) (f : BodyKnown xs k n) where
+  pub number-link : linkRead (n .body .start) (n .reserved) (spanOf xs (spanIn xs (n .body))) ≡ numberedLink xs k
   unfolding numberedLink linkRead
-  number-link = rw (n .size, ← n .place, n .rows, n .good)
+  number-link = rw (f .bytes, f .start, f .reserved, f .rows, f .good)
 
-  pub number-item : (i : ℕ) → itemRead (p + 2) (take (q - (p + 2)) (drop (p + 2) xs)) i ≡ numberedItem xs k i
-  unfolding numberedItem itemRead itemRows itemRow
-  number-item i = rw (n .size, ← n .place, go-on (linkRows xs k) (refuse _ 21 i (itemCount (bodyIn xs (linkPlace xs k)))) (n .rows), go-on (bodyVerdict (bodyIn xs (linkPlace xs k))) _ (n .good))
+  pub number-item : (i : ℕ) → itemRead (n .body .start) (spanOf xs (spanIn xs (n .body))) i ≡ numberedItem xs k i
+  unfolding numberedItem itemRead itemRows
+  number-item i = rw (f .bytes, f .start, go-on (linkRows xs k) (itemRow (bodyOf xs k) i) (f .rows), go-on (bodyVerdict (bodyOf xs k)) (itemRow (bodyOf xs k) i) (f .good))
 
-  pub number-span : span (p + 2) (q - (p + 2)) ≡ bodySpan xs k
-  unfolding bodySpan
-  number-span = rw (n .rows, n .place, n .size)
+pub link-stopped : (xs : List ℕ) (k : ℕ) (r : Refusal) → linkRows xs k ≡ Refused r → notRead r ≡ numberedLink xs k
+unfolding numberedLink linkAnswer
+link-stopped xs k r v = rw v
 
 pub item-stopped : (xs : List ℕ) (k i : ℕ) (r : Refusal) → linkRows xs k ≡ Refused r → item.Refused r ≡ numberedItem xs k i
 unfolding numberedItem itemAnswer
 item-stopped xs k i r v = rw (refused-then (linkRows xs k) _ r v)
-
--- ---- parts
-
--- the place of a part of a part
-pub within-within : (q : ℕ × ℕ) (a b : ℕ) → within (within q a) b ≡ within q (b + a)
-within-within q a b = let e : b + (a + q .1) ≡ b + a + q .1 = omega arith in rw e
-
--- the loop's descriptors lie within the bytes, also where there are none
-pub descriptors-within : (xs : List ℕ) → Bytes xs → (r : RctSection) → r ≡ sectionRead (plain xs) xs → r .descriptors .start + r .descriptors .length ≤ length xs
-unfolding sectionRead
-descriptors-within xs b r e = rw e (go (plain xs) refl)
-  where
-    go : (v : Verdict) → plain xs ≡ v → sectionRead v xs .descriptors .start + sectionRead v xs .descriptors .length ≤ length xs
-    go Fine v = let a = accepted longest xs b v in omega arith
-    go (Refused q) v = omega arith

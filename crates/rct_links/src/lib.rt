@@ -1,57 +1,85 @@
 // The links of a section and their items, by number.
 ghost use mathlib.Core.Path.{_≡_};
-ghost use Rattle.wire.specs.declared.verdict.Verdict.the-variants.{Refused};
-ghost use Rattle.link.specs.Records.{noLink};
-ghost use Rattle.rct.specs.Reading.{loopPlace};
-ghost use Rattle.rct_walker.specs.Places.{located, linkSpot, linkEndSpot};
-ghost use Rattle.rct_walker.specs.Links.{linkRows, numberedLink, numberedItem};
-use link::LinkInfo;
+ghost use Rattle.wire.specs.Refusals.{noSuchNumber};
+ghost use Rattle.wire.specs.Verdict.{bad};
+ghost use Rattle.wire.specs.declared.verdict.Verdict.the-variants.{Fine, Refused};
+ghost use Rattle.rct.specs.Reading.{plain};
+ghost use Rattle.rct_walker.specs.Places.{placesAt};
+ghost use Rattle.rct_links.specs.Links.{bodyAnswer, numberedBody, numberedLink, numberedItem};
 use link::reading::ItemRead;
 use link::reading::LinkRead;
-use rct::RctHeader;
-use rct_walker::Located;
+use rct_walker::LinkSpan;
+use rct_walker::RctPlaces;
+use rct_walker::RctWalked;
 use wire::lengths::LengthField;
+use wire::spans::Span;
+use wire::spans::handed;
 use wire::verdict::Refusal;
 use wire::verdict::Verdict;
 
-pub mod parts;
+// Where the body of a link stands in its section and the four bits before its length, or the refusal beside zeros.
+pub struct NumberedBody {
+    pub verdict: Verdict,
+    pub reserved: u16,
+    pub body: Span,
+}
 
-// The places of a link that there is: the plain reading, then 21 (number, count).
-fn numbered(s: &[u8], number: usize) -> Located
-    ensures { λ r. ⌜ r ≡ located (linkRows (now (s .entry)) number) (linkSpot (now (s .entry)) number) (linkEndSpot (now (s .entry)) number) (loopPlace (now (s .entry))) ⌝ }
+fn no_body(refusal: Refusal) -> NumberedBody
+    ensures { λ r. ⌜ r ≡ bodyAnswer (Refused refusal) 0 0 0 ⌝ }
 {
-    let found = rct_walker::find(s, number);
-    match found {
-        Located::At {
-            link_at,
-            link_end,
-            loop_at,
-        } => {
-            let count = wire::wide(s[RctHeader::COUNT_AT]);
-            if count <= number {
-                return Located::Refused(Refusal {
-                    number: Refusal::NO_SUCH_NUMBER,
-                    first: number,
-                    second: count,
-                });
-            }
-            Located::At {
-                link_at,
-                link_end,
-                loop_at,
-            }
-        }
-        Located::Refused(r) => Located::Refused(r),
+    NumberedBody {
+        verdict: Verdict::Refused(refusal),
+        reserved: 0,
+        body: Span {
+            start: 0,
+            length: 0,
+        },
     }
 }
 
-fn no_link(refusal: Refusal) -> LinkRead
-    ensures { λ r. ⌜ (r .verdict ≡ Refused refusal) × (r .link ≡ noLink) ⌝ }
+fn no_such(number: usize, count: usize) -> NumberedBody
+    ensures { λ r. ⌜ r ≡ bodyAnswer (bad noSuchNumber number count) 0 0 0 ⌝ }
 {
-    let link = LinkInfo::none();
-    LinkRead {
-        verdict: Verdict::Refused(refusal),
-        link,
+    no_body(Refusal {
+        number: Refusal::NO_SUCH_NUMBER,
+        first: number,
+        second: count,
+    })
+}
+
+// The body of link `number` of an accepted section.
+fn body_at(s: &[u8], places: RctPlaces, number: usize) -> NumberedBody
+    requires { ⌜ (places ≡ placesAt (now s) number) × (plain (now s) ≡ Fine) ⌝ }
+    ensures { λ r. ⌜ r ≡ numberedBody (now (s .entry)) number ⌝ }
+{
+    if places.count <= number {
+        return no_such(number, places.count);
+    }
+    let link = places.link;
+    match link {
+        LinkSpan::At { start, end: _ } => {
+            let field = LengthField::of_bytes(s[start], s[start + 1]);
+            NumberedBody {
+                verdict: Verdict::Fine,
+                reserved: field.beside as u16,
+                body: Span {
+                    start: start + LengthField::BYTES,
+                    length: field.length,
+                },
+            }
+        }
+        LinkSpan::NoSuchLink => no_such(number, places.count),
+    }
+}
+
+// The body of a link by number: the plain reading, then 21 (number, count).
+pub fn numbered_body(s: &[u8], number: usize) -> NumberedBody
+    ensures { λ r. ⌜ r ≡ numberedBody (now (s .entry)) number ⌝ }
+{
+    let found = rct_walker::plain_places(s, number);
+    match found {
+        RctWalked::Read(places) => body_at(s, places, number),
+        RctWalked::Refused(r) => no_body(r),
     }
 }
 
@@ -59,18 +87,14 @@ fn no_link(refusal: Refusal) -> LinkRead
 pub fn read_link(s: &[u8], number: usize) -> LinkRead
     ensures { λ r. ⌜ r ≡ numberedLink (now (s .entry)) number ⌝ }
 {
-    let found = numbered(s, number);
-    match found {
-        Located::At {
-            link_at,
-            link_end,
-            loop_at: _,
-        } => {
-            let start = link_at + LengthField::BYTES;
-            let field = LengthField::of_bytes(s[link_at], s[link_at + 1]);
-            link_reader::read_link(&s[start..link_end], start as u16, field.beside as u16)
+    let found = numbered_body(s, number);
+    let verdict = found.verdict;
+    let body = found.body;
+    match verdict {
+        Verdict::Fine => {
+            link_reader::read_link(handed(s, body), body.start as u16, found.reserved)
         }
-        Located::Refused(r) => no_link(r),
+        Verdict::Refused(r) => LinkRead::refused(r),
     }
 }
 
@@ -78,16 +102,11 @@ pub fn read_link(s: &[u8], number: usize) -> LinkRead
 pub fn read_item(s: &[u8], number: usize, item: usize) -> ItemRead
     ensures { λ r. ⌜ r ≡ numberedItem (now (s .entry)) number item ⌝ }
 {
-    let found = numbered(s, number);
-    match found {
-        Located::At {
-            link_at,
-            link_end,
-            loop_at: _,
-        } => {
-            let start = link_at + LengthField::BYTES;
-            link_reader::read_item(&s[start..link_end], start as u16, item)
-        }
-        Located::Refused(r) => ItemRead::Refused(r),
+    let found = numbered_body(s, number);
+    let verdict = found.verdict;
+    let body = found.body;
+    match verdict {
+        Verdict::Fine => link_reader::read_item(handed(s, body), body.start as u16, item),
+        Verdict::Refused(r) => ItemRead::Refused(r),
     }
 }

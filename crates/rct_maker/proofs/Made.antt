@@ -2,58 +2,45 @@
 -- Assumes nothing.
 use Prim.Native.Nat.{ℕ, _+_, _-_, _%_, _≤_}
 use mathlib.Core.Path.{_≡_, refl, ap, _∙_}
-use mathlib.Core.Bool.{Bool, true, false}
 use mathlib.Core.List.{List, [], _∷_, _++_}
 use native.Mathlib.Nat.{zero-add}
 use native.Mathlib.Omega.{arith}
-use lib.ListN.{length, take, drop, getD}
+use lib.ListN.{length, take, drop}
 use lib.Seq.{sets}
-use Rattle.wire.specs.Choice.{bit}
-use Rattle.wire.specs.Lengths.{longest, lengthBytes, blockBytes}
-use Rattle.wire.specs.Numbers.{bytes16}
+use Rattle.wire.specs.Lengths.{longest, widestBeside, lengthBytes, blockBytes}
 use Rattle.wire.specs.Stores.{putAt, Wrote}
-use Rattle.wire.specs.Verdict.{refuse, _▷_}
 use Rattle.wire.specs.declared.verdict.Refusal.{Refusal}
 use Rattle.wire.specs.declared.verdict.Verdict.the-variants.{Fine, Refused}
 use Rattle.wire.proofs.Verdicts.{go-on, refused-then}
-use Rattle.wire.proofs.Writing.{then, wrote-length}
+use Rattle.wire.proofs.Writing.{then, wrote-length, copied, field-put}
 use Rattle.link.specs.declared.Range.{Range}
 use Rattle.link_draft.proofs.Sizes.{range-length}
-use Rattle.link_draft.proofs.Putting.{copied, range-copied}
-use Rattle.frame.specs.Frame.{uncounted, crcLength}
+use Rattle.link_draft.proofs.Putting.{range-copied}
+use Rattle.section_header.specs.Syntax.{headerBytes}
+use Rattle.frame.specs.Syntax.{crcLength, uncounted}
+use Rattle.frame.specs.Ending.{sealedAt, sealAt, sealEnd}
+use Rattle.frame.proofs.Endings.{sealed-room}
+use Rattle.section_header.proofs.HeaderLaws.{Narrow, narrowed-whole}
 use Rattle.rct.specs.declared.RctHeader.{RctHeader}
-use Rattle.rct.specs.Syntax.{tableId, headLength, shortest, Section, firstBits, versionByte, headBytes, payload, sectionLength, fullLength, sectionBytes}
+use Rattle.rct.specs.Syntax.{headLength, shortest, Section, headBytes, payload, sectionLength, fullLength, sectionBytes}
 use Rattle.rct.proofs.Accepted.{length-payload, length-section}
-use Rattle.rct_edit.specs.Edit.{bare, makeVerdict, fresh, made}
+use Rattle.rct_edit.specs.Edit.{bare, roomRows, makeVerdict, fresh, made}
 use Rattle.rct_edit.proofs.Assembled.{assembled-fresh}
 use Rattle.rct_edit.specs.Answers.{refusedWith, acceptedWith}
-use Rattle.rct_edit.specs.Making.{checkMaking, HeaderNarrow, LoopNarrow, loopOf, making}
-use Rattle.rct_edit.specs.Steps.{roomRows, sealedAt, sealAt, sealEnd}
+use Rattle.rct_edit.specs.Making.{checkMaking, narrowedHeader, LoopNarrow, loopOf}
+use Rattle.rct_edit.specs.Calls.{making}
 use Rattle.rct_edit.specs.declared.Edited.{Edited}
-use Rattle.rct_edit.proofs.Narrow.{loop-narrow}
-use Rattle.rct_edit.proofs.Outcomes.{Came, outcome-stops, outcome-goes, done-outcome, Roomy, room-passed}
-use Rattle.rct_edit.proofs.Stores.{sealed-room, field-put, field-whole}
+use Rattle.rct_edit.proofs.Narrow.{header-narrow, loop-narrow}
+use Rattle.rct_edit.proofs.Outcomes.{Came, done-stops, done-goes, Roomy, room-passed}
 
 -- ---- the stores
 
-bit-le : (b : Bool) → bit b ≤ 1
-bit-le true = omega arith
-bit-le false = omega arith
-
-first-narrow : (h : RctHeader) → HeaderNarrow h → firstBits h ≤ 15
-first-narrow h n = omega (arith, bit-le (h .«section_syntax_indicator»), bit-le (h .«table_id_extension_flag»), n .reserved1)
-
-pub head-is : (h : RctHeader) (len first version : ℕ) (bs sv yr : List ℕ) → HeaderNarrow h → len ≤ longest → first ≡ firstBits h → bs ≡ lengthBytes (first % 16) (len % 4096)
-    → sv ≡ bytes16 (h .«service_id») → yr ≡ bytes16 (h .«year_offset») → version ≡ versionByte h
-    → tableId ∷ getD bs 0 0 ∷ getD bs 1 0 ∷ getD sv 0 0 ∷ getD sv 1 0 ∷ version ∷ h .«section_number» ∷ h .«last_section_number» ∷ getD yr 0 0 ∷ getD yr 1 0 ∷ 0 ∷ []
-    ≡ headBytes h len 0
-unfolding headBytes lengthBytes
-head-is h len first version bs sv yr n l f b s y v =
-    let w : bs ≡ lengthBytes (firstBits h) len = b ∙ ap (λ m. lengthBytes (m % 16) (len % 4096)) f ∙ field-whole (firstBits h) len (first-narrow h n) l in
-    rw (w, s, y, v)
+-- a header that passed its check, and a length that the field tells, are written whole
+pub head-whole : (h : RctHeader) (len : ℕ) → Narrow (h .section) → len ≤ longest → headBytes (narrowedHeader h) (len % (longest + 1)) 0 ≡ headBytes h len 0
+head-whole h len n l = let m : len % (longest + 1) ≡ len = omega arith in rw (narrowed-whole (h .section) n, m)
 
 pub loop-put : (xs ys zs bs t : List ℕ) (beside : ℕ) (d : Range) → LoopNarrow beside t d → headLength + 2 + d .length ≤ length xs
-    → bs ≡ lengthBytes (beside % 16) (d .length % 4096) → ys ≡ putAt xs headLength bs → zs ≡ putAt ys (headLength + 2) (take (d .start + d .length - d .start) (drop (d .start) t))
+    → bs ≡ lengthBytes (beside % (widestBeside + 1)) (d .length % (longest + 1)) → ys ≡ putAt xs headLength bs → zs ≡ putAt ys (headLength + 2) (take (d .start + d .length - d .start) (drop (d .start) t))
     → Wrote xs headLength (blockBytes (loopOf beside t d)) zs (headLength + 2 + d .length)
 unfolding blockBytes
 loop-put xs ys zs bs t beside d n r b p q =
@@ -69,42 +56,36 @@ module _ (xs : List ℕ) (h : RctHeader) (beside : ℕ) (t : List ℕ) (d : Rang
 
   pub make-own : (r : Refusal) (e : Edited) → checkMaking h beside (length t) d ≡ Refused r → e ≡ refusedWith (Refused r) → Came (making xs h beside t d) e xs
   unfolding making made makeVerdict
-  make-own r e c a =
-      rw (done-outcome (makeVerdict (length xs) (checkMaking h beside (length t) d) sectionOf) sectionOf (fresh xs sectionOf) xs)
-      (outcome-stops _ _ _ xs r e (refused-then (checkMaking h beside (length t) d) _ r c) a)
+  make-own r e c a = done-stops _ _ _ xs r e (refused-then (checkMaking h beside (length t) d) _ r c) a
 
   module _ (c : checkMaking h beside (length t) d ≡ Fine) (len : ℕ) (is : len ≡ shortest + d .length) where
     length-made : sectionLength sectionOf ≡ len
     unfolding sectionLength
     length-made = omega (arith, length-payload sectionOf, range-length t d (loop-narrow h beside t d c .within))
 
-    -- the rows of a section in which no link is
-    rows : makeVerdict (length xs) (checkMaking h beside (length t) d) sectionOf ≡ roomRows (length xs) 0 len
-    unfolding makeVerdict roomRows refuse _▷_
+    rows : makeVerdict (length xs) (checkMaking h beside (length t) d) sectionOf ≡ roomRows (length xs) len
+    unfolding makeVerdict
     rows = go-on (checkMaking h beside (length t) d) _ c ∙ rw length-made
 
-    pub make-room : (r : Refusal) (e : Edited) → roomRows (length xs) 0 len ≡ Refused r → e ≡ refusedWith (Refused r) → Came (making xs h beside t d) e xs
+    pub make-room : (r : Refusal) (e : Edited) → roomRows (length xs) len ≡ Refused r → e ≡ refusedWith (Refused r) → Came (making xs h beside t d) e xs
     unfolding making made
-    make-room r e w a =
-        rw (done-outcome (makeVerdict (length xs) (checkMaking h beside (length t) d) sectionOf) sectionOf (fresh xs sectionOf) xs)
-        (outcome-stops _ _ _ xs r e (rows ∙ w) a)
+    make-room r e w a = done-stops _ _ _ xs r e (rows ∙ w) a
 
-    pub make-done : (hs y1 y2 y3 : List ℕ) (end total : ℕ) (e : Edited) → roomRows (length xs) 0 len ≡ Fine
-        → hs ≡ headBytes h len 0 → y1 ≡ putAt xs 0 hs → Wrote y1 headLength (blockBytes (loopOf beside t d)) y2 end → y3 ≡ sealAt y2 end → total ≡ sealEnd y2 end → e ≡ acceptedWith total
+    pub make-done : (hs y1 y2 y3 : List ℕ) (end total : ℕ) (e : Edited) → roomRows (length xs) len ≡ Fine
+        → hs ≡ headBytes (narrowedHeader h) (len % (longest + 1)) 0 → y1 ≡ putAt xs 0 hs → Wrote y1 headLength (blockBytes (loopOf beside t d)) y2 end → y3 ≡ sealAt y2 end → total ≡ sealEnd y2 end → e ≡ acceptedWith total
         → Came (making xs h beside t d) e y3
     unfolding making made
     make-done hs y1 y2 y3 end total e w eh e1 e2 e3 et a =
-        rw (done-outcome (makeVerdict (length xs) (checkMaking h beside (length t) d) sectionOf) sectionOf (fresh xs sectionOf) xs)
-        (outcome-goes _ _ _ xs total y3 e (rows ∙ w) size bytes a)
+        done-goes _ _ _ xs total y3 e (rows ∙ w) size bytes a
       where
-        room : Roomy (length xs) 0 len
-        room = room-passed (length xs) 0 len w
+        room : Roomy (length xs) len
+        room = room-passed (length xs) len w
 
         body : blockBytes (loopOf beside t d) ≡ payload sectionOf
         body = unfold payload in refl
 
         front : length (headBytes h len 0) ≡ headLength
-        front = unfold headBytes lengthBytes in refl
+        front = unfold headBytes headerBytes lengthBytes in refl
 
         whole : fullLength sectionOf ≤ length xs
         whole = omega (arith, length-made, room .enough)
@@ -113,7 +94,7 @@ module _ (xs : List ℕ) (h : RctHeader) (beside : ℕ) (t : List ℕ) (d : Rang
         wide = length-section sectionOf ∙ ap (λ n. uncounted + n) length-made
 
         one : Wrote xs 0 (headBytes h len 0) y1 (0 + headLength)
-        one = copied xs y1 (headBytes h len 0) 0 headLength (e1 ∙ ap (putAt xs 0) eh) front (omega (arith, room .enough, is))
+        one = copied xs y1 (headBytes h len 0) 0 headLength (e1 ∙ ap (putAt xs 0) (eh ∙ head-whole h len (header-narrow h beside t d c) (omega (arith, room .fit)))) front (omega (arith, room .enough, is))
 
         two : Wrote xs 0 (headBytes h len 0 ++ blockBytes (loopOf beside t d)) y2 end
         two = then one e2

@@ -1,18 +1,19 @@
 // Making a section with no links.
 ghost use mathlib.Core.Path.{_≡_};
-ghost use Prim.Native.Nat.{_+_, _≤_};
+ghost use Prim.Native.Nat.{_+_, _%_, _≤_};
 ghost use lib.ListN.{length};
 ghost use Rattle.wire.specs.Lengths.{longest, blockBytes};
 ghost use Rattle.wire.specs.Stores.{Wrote};
-ghost use Rattle.rct.specs.Syntax.{headLength, firstBits, versionByte, headBytes};
+ghost use Rattle.rct.specs.Syntax.{headLength, headBytes};
 ghost use Rattle.rct_edit.specs.Answers.{answer};
-ghost use Rattle.rct_edit.specs.Making.{checkHeader, checkLoop, checkMaking, HeaderNarrow, LoopNarrow, loopOf, making};
+ghost use Rattle.rct_edit.specs.Making.{checkLoop, checkMaking, narrowedHeader, LoopNarrow, loopOf};
+ghost use Rattle.rct_edit.specs.Calls.{making};
 use field::Field;
 use link::Range;
 use link_draft::check_range;
 use rct::RctHeader;
 use rct_edit::Edited;
-use rct_edit::steps;
+use rct_edit::room::check_room;
 use wire::lengths::LengthField;
 use wire::verdict::Verdict;
 use wire::verdict::first_of;
@@ -36,32 +37,20 @@ pub fn make(
         descriptors,
     );
     let Verdict::Fine = parts else {
-        return steps::refused(parts);
+        return Edited::refused(parts);
     };
     let length = RctHeader::SHORTEST as usize + descriptors.length as usize;
-    let room = steps::check_room(b.len(), 0, length);
+    let room = check_room(b.len(), length);
     let Verdict::Fine = room else {
-        return steps::refused(room);
+        return Edited::refused(room);
     };
     let head = head_bytes(header, length);
     wire::put_at(b, 0, &head);
     let end = put_loop(b, reserved_descriptor_loop_length, text, descriptors);
-    steps::accepted(steps::seal(b, end))
+    Edited::accepted(frame::ending::seal(b, end))
 }
 
-// 22 of places 20 to 22.
-fn check_header(header: RctHeader) -> Verdict
-    ensures { λ r. ⌜ r ≡ checkHeader header ⌝ }
-{
-    let version = Field::VERSION_NUMBER.check(header.version_number as usize);
-    let reserved = Field::VERSION_RESERVED.check(header.reserved_b5 as usize);
-    first_of(
-        Field::SECTION_RESERVED.check(header.reserved_b1 as usize),
-        first_of(version, reserved),
-    )
-}
-
-// 22 of places 23 and 24.
+// 22 of ranks 23 and 24.
 fn check_loop(reserved: u16, range: Range) -> Verdict
     ensures { λ r. ⌜ r ≡ checkLoop reserved range ⌝ }
 {
@@ -75,48 +64,26 @@ fn check_making(header: RctHeader, reserved: u16, have: usize, range: Range) -> 
     ensures { λ r. ⌜ r ≡ checkMaking header reserved have range ⌝ }
 {
     let later = first_of(check_loop(reserved, range), check_range(have, range));
-    first_of(check_header(header), later)
-}
-
-// The four bits before section_length, and byte 5.
-fn first_bits(header: RctHeader) -> u8
-    requires { ⌜ HeaderNarrow header ⌝ }
-    ensures { λ r. ⌜ r ≡ firstBits header ⌝ }
-{
-    let syntax = wire::flag(header.section_syntax_indicator);
-    let extension = wire::flag(header.table_id_extension_flag);
-    syntax * 8 + extension * 4 + header.reserved_b1 as u8
-}
-
-fn version_byte(header: RctHeader) -> u8
-    requires { ⌜ HeaderNarrow header ⌝ }
-    ensures { λ r. ⌜ r ≡ versionByte header ⌝ }
-{
-    let current = wire::flag(header.current_next_indicator);
-    header.reserved_b5 as u8 * 64 + header.version_number as u8 * 2 + current
+    let section = header.section;
+    first_of(section.check(), later)
 }
 
 // The bytes before the links, of which there are none.
-fn head_bytes(header: RctHeader, section_length: usize) -> [u8; 11]
-    requires { ⌜ HeaderNarrow header × («section_length» ≤ longest) ⌝ }
-    ensures { λ r. ⌜ r ≡ headBytes header «section_length» 0 ⌝ }
+fn head_bytes(header: RctHeader, section_length: usize) -> [u8; RctHeader::HEAD]
+    ensures { λ r. ⌜ r ≡ headBytes (narrowedHeader header) («section_length» % (longest + 1)) 0 ⌝ }
 {
-    let field = LengthField {
-        beside: first_bits(header),
-        length: section_length,
-    };
-    let length = field.to_bytes();
-    let service = wire::to_be16(header.service_id);
+    let section = header.section;
+    let front = section.to_bytes(section_length);
     let year = wire::to_be16(header.year_offset);
     [
         RctHeader::TABLE_ID,
-        length[0],
-        length[1],
-        service[0],
-        service[1],
-        version_byte(header),
-        header.section_number,
-        header.last_section_number,
+        front[0],
+        front[1],
+        front[2],
+        front[3],
+        front[4],
+        front[5],
+        front[6],
         year[0],
         year[1],
         0,

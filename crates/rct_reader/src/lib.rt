@@ -1,49 +1,52 @@
 // Reading a related content section as a whole, by plain and by checked reading.
 ghost use mathlib.Core.Path.{_≡_};
-ghost use Prim.Native.Nat.{_+_, _≤_};
+ghost use Prim.Native.Nat.{ℕ, _≤_};
 ghost use lib.ListN.{length};
+ghost use Rattle.wire.specs.declared.verdict.Verdict.{Verdict};
 ghost use Rattle.wire.specs.declared.verdict.Verdict.the-variants.{Fine};
-ghost use Rattle.rct.specs.Reading.{headerAt, plain, checked, loopPlace};
-ghost use Rattle.rct_walker.specs.Sections.{noSection, sectionRead};
-use field::Field;
+ghost use Rattle.frame.specs.Reading.{totalOf};
+ghost use Rattle.rct.specs.Syntax.{headLength};
+ghost use Rattle.rct.specs.Reading.{rctHeaderAt, countAt, loopPlace, plain, checked};
+ghost use Rattle.rct_walker.specs.Places.{loopFound};
+ghost use Rattle.rct_walker.specs.declared.RctLoop.the-variants.{At};
+ghost use Rattle.rct_reader.specs.Sections.{noSection, sectionRead};
 use link::Range;
 use rct::RctHeader;
-use rct_walker::Located;
-use rct_walker::RctSection;
+use rct_walker::RctLoop;
+use section_header::SectionHeader;
 use wire::lengths::LengthField;
 use wire::verdict::Refusal;
 use wire::verdict::Verdict;
 
+// A section that was read, or a refusal beside zeros.
+pub struct RctSection {
+    pub verdict: Verdict,
+    pub total: usize,
+    pub header: RctHeader,
+    pub number_of_links: usize,
+    pub reserved_descriptor_loop_length: u16,
+    pub descriptors: Range,
+}
+
 fn header_at(s: &[u8]) -> RctHeader
-    requires { ⌜ 11 ≤ length (now s) ⌝ }
-    ensures { λ r. ⌜ r ≡ headerAt (now (s .entry)) ⌝ }
+    requires { ⌜ headLength ≤ length (now s) ⌝ }
+    ensures { λ r. ⌜ r ≡ rctHeaderAt (now (s .entry)) ⌝ }
 {
-    let field = LengthField::of_bytes(s[1], s[2]);
-    let first = field.beside;
-    let version = s[5];
+    let section = SectionHeader::of_bytes(s[1], s[3], s[4], s[5], s[6], s[7]);
+    let year_offset = wire::be16(s[RctHeader::YEAR_AT], s[RctHeader::YEAR_AT + 1]);
     RctHeader {
-        section_syntax_indicator: first / 8 == 1,
-        table_id_extension_flag: first / 4 % 2 == 1,
-        reserved_b1: Field::SECTION_RESERVED.low(first as u16),
-        service_id: wire::be16(s[3], s[4]),
-        reserved_b5: Field::VERSION_RESERVED.low((version / 64) as u16),
-        version_number: Field::VERSION_NUMBER.low((version / 2) as u16),
-        current_next_indicator: version % 2 == 1,
-        section_number: s[6],
-        last_section_number: s[7],
-        year_offset: wire::be16(s[8], s[9]),
+        section,
+        year_offset,
     }
 }
 
-// The record of a section whose descriptor loop stands at `loop_at`.
-fn section_at(s: &[u8], loop_at: usize) -> RctSection
-    requires { ⌜ (11 ≤ length (now s)) × ((«loop_at» ≡ loopPlace (now s)) × ((«loop_at» + 2 ≤ length (now s)) × («loop_at» ≤ 65535))) ⌝ }
+// The record of an accepted section, by what its walk found.
+fn section_at(s: &[u8], total: usize, number_of_links: usize, loop_at: usize) -> RctSection
+    requires { ⌜ ((total ≡ totalOf (now s)) × ((«number_of_links» ≡ countAt (now s)) × («loop_at» ≡ loopPlace (now s)))) × (plain (now s) ≡ Fine) ⌝ }
     ensures { λ r. ⌜ r ≡ sectionRead Fine (now (s .entry)) ⌝ }
 {
-    let field = LengthField::of_bytes(s[loop_at], s[loop_at + 1]);
     let header = header_at(s);
-    let total = frame::total(s[1], s[2]);
-    let number_of_links = wire::wide(s[RctHeader::COUNT_AT]);
+    let field = LengthField::of_bytes(s[loop_at], s[loop_at + 1]);
     RctSection {
         verdict: Verdict::Fine,
         total,
@@ -60,19 +63,12 @@ fn section_at(s: &[u8], loop_at: usize) -> RctSection
 fn no_section(refusal: Refusal) -> RctSection
     ensures { λ r. ⌜ r ≡ noSection refusal ⌝ }
 {
+    let section = SectionHeader::none();
     RctSection {
         verdict: Verdict::Refused(refusal),
         total: 0,
         header: RctHeader {
-            section_syntax_indicator: false,
-            table_id_extension_flag: false,
-            reserved_b1: 0,
-            service_id: 0,
-            reserved_b5: 0,
-            version_number: 0,
-            current_next_indicator: false,
-            section_number: 0,
-            last_section_number: 0,
+            section,
             year_offset: 0,
         },
         number_of_links: 0,
@@ -84,32 +80,31 @@ fn no_section(refusal: Refusal) -> RctSection
     }
 }
 
+// What either reading answers, by what its walk found.
+fn section_of(s: &[u8], found: RctLoop) -> RctSection
+    requires { ⌜ ((t n p : ℕ) → found ≡ At t n p → ((t ≡ totalOf (now s)) × ((n ≡ countAt (now s)) × (p ≡ loopPlace (now s)))) × (plain (now s) ≡ Fine)) ⌝ }
+    ensures { λ r. ⌜ ((v : Verdict) → found ≡ loopFound v (now (s .entry)) → r ≡ sectionRead v (now (s .entry))) ⌝ }
+{
+    match found {
+        RctLoop::At {
+            total,
+            count,
+            loop_at,
+        } => section_at(s, total, count, loop_at),
+        RctLoop::Refused(r) => no_section(r),
+    }
+}
+
 // The plain reading: document 01's 1 to 19.
 pub fn read_section(s: &[u8]) -> RctSection
     ensures { λ r. ⌜ r ≡ sectionRead (plain (now (s .entry))) (now (s .entry)) ⌝ }
 {
-    let read = rct_walker::find(s, 0);
-    match read {
-        Located::At {
-            link_at: _,
-            link_end: _,
-            loop_at,
-        } => section_at(s, loop_at),
-        Located::Refused(r) => no_section(r),
-    }
+    section_of(s, rct_walker::plain_loop(s))
 }
 
 // The checked reading: the plain one, then 20.
 pub fn check_section(s: &[u8]) -> RctSection
     ensures { λ r. ⌜ r ≡ sectionRead (checked (now (s .entry))) (now (s .entry)) ⌝ }
 {
-    let read = rct_walker::locate(s, 0);
-    match read {
-        Located::At {
-            link_at: _,
-            link_end: _,
-            loop_at,
-        } => section_at(s, loop_at),
-        Located::Refused(r) => no_section(r),
-    }
+    section_of(s, rct_walker::checked_loop(s))
 }

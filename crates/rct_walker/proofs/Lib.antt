@@ -1,6 +1,6 @@
--- The laws of the reading calls, and that each public contract leaves one outcome.
-pub mod Entries
-pub mod Numbers
-pub mod Images
-pub mod Rows
+-- The laws of the walk, and that each public contract leaves one outcome.
+pub mod Walks
+pub mod Loops
+pub mod EntryLaws
+pub mod Listed
 pub mod Unique

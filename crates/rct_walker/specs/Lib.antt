@@ -1,5 +1,4 @@
--- What the calls that read the related content section answer.
+-- What a walk over the related content section answers; Stages is for the walk's own functions alone.
 pub mod Places
-pub mod Sections
-pub mod Links
-pub mod Parts
+pub mod Entries
+pub mod Stages

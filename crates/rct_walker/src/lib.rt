@@ -1,65 +1,115 @@
 // Walking over a related content section, by plain and by checked reading: the places of its links and of its loop, and an
-// entry by its place; and what reading the whole answers.
+// entry by its place.
 ghost use mathlib.Core.Path.{_≡_};
-ghost use Rattle.rct.specs.Reading.{plain, checked, loopPlace};
-ghost use Rattle.rct_walker.specs.Places.{located, linkSpot, linkEndSpot};
-use link::Range;
-use rct::RctHeader;
-use wire::lengths::LengthField;
+ghost use Rattle.rct.specs.Reading.{plain, checked};
+ghost use Rattle.rct_walker.specs.Places.{placesAt, walked, loopFound};
+use frame::Demands;
 use wire::verdict::Refusal;
 use wire::verdict::Verdict;
 
 pub mod entry;
-mod places;
+mod walk;
 
-// A section that was read, or a refusal beside zeros.
-pub struct RctSection {
-    pub verdict: Verdict,
-    pub total: usize,
-    pub header: RctHeader,
-    pub number_of_links: usize,
-    pub reserved_descriptor_loop_length: u16,
-    pub descriptors: Range,
+// Where the entry of a link starts and ends. At the number of links it is the empty span where the next one would go.
+pub enum LinkSpan {
+    At { start: usize, end: usize },
+    NoSuchLink,
 }
 
-// Where a link's entry stands and where it ends, both 0 if there is no such link, and where the descriptor loop stands.
-pub enum Located {
+// The bytes of the section, the number of its links, the span of the one that was asked for, and the place of its loop.
+// Total and count stand apart: two words that are stored one by one and read as one make the processor wait.
+pub struct RctPlaces {
+    pub total: usize,
+    pub link: LinkSpan,
+    pub count: usize,
+    pub loop_at: usize,
+}
+
+// Of the whole section: its bytes, the number of its links, and the place of its loop.
+pub enum RctLoop {
     At {
-        link_at: usize,
-        link_end: usize,
+        total: usize,
+        count: usize,
         loop_at: usize,
     },
     Refused(Refusal),
 }
 
-// The places of a link by number and of the descriptor loop, by the checked reading.
-pub fn locate(s: &[u8], number: usize) -> Located
-    ensures { λ r. ⌜ r ≡ located (checked (now (s .entry))) (linkSpot (now (s .entry)) number) (linkEndSpot (now (s .entry)) number) (loopPlace (now (s .entry))) ⌝ }
+pub enum RctWalked {
+    Read(RctPlaces),
+    Refused(Refusal),
+}
+
+// The places of a section and of a link by number, by the plain reading.
+pub fn plain_places(s: &[u8], number: usize) -> RctWalked
+    ensures { λ r. ⌜ r ≡ walked (plain (now (s .entry))) (placesAt (now (s .entry)) number) ⌝ }
 {
-    let read = places::read_places(s, RctHeader::limit(), number);
+    walk::read_places(s, Demands::plain(), number)
+}
+
+// The same by the checked reading.
+pub fn checked_places(s: &[u8], number: usize) -> RctWalked
+    ensures { λ r. ⌜ r ≡ walked (checked (now (s .entry))) (placesAt (now (s .entry)) number) ⌝ }
+{
+    let read = walk::read_places(s, Demands::checked(), number);
     match read {
-        Located::At {
-            link_at,
-            link_end,
-            loop_at,
-        } => {
-            let v = places::crc_verdict(s);
+        RctWalked::Read(places) => {
+            let v = frame::ending::check_crc(s, frame::payload_end(places.total));
             match v {
-                Verdict::Fine => Located::At {
-                    link_at,
-                    link_end,
-                    loop_at,
-                },
-                Verdict::Refused(r) => Located::Refused(r),
+                Verdict::Fine => RctWalked::Read(places),
+                Verdict::Refused(r) => RctWalked::Refused(r),
             }
         }
-        Located::Refused(r) => Located::Refused(r),
+        RctWalked::Refused(r) => RctWalked::Refused(r),
     }
 }
 
-// The same places by the plain reading.
-pub fn find(s: &[u8], number: usize) -> Located
-    ensures { λ r. ⌜ r ≡ located (plain (now (s .entry))) (linkSpot (now (s .entry)) number) (linkEndSpot (now (s .entry)) number) (loopPlace (now (s .entry))) ⌝ }
+// The place of the descriptor loop, by the plain reading. The answer is taken apart and made anew: handed on as it came, its
+// words would be copied in pairs right behind their stores, for which the processor waits.
+pub fn plain_loop(s: &[u8]) -> RctLoop
+    ensures { λ r. ⌜ r ≡ loopFound (plain (now (s .entry))) (now (s .entry)) ⌝ }
 {
-    places::read_places(s, LengthField::LONGEST, number)
+    let found = walk::read_loop(s, Demands::plain());
+    match found {
+        RctLoop::At {
+            total,
+            count,
+            loop_at,
+        } => {
+            return RctLoop::At {
+                total,
+                count,
+                loop_at,
+            };
+        }
+        RctLoop::Refused(r) => {
+            return RctLoop::Refused(r);
+        }
+    }
+}
+
+// The same by the checked reading.
+pub fn checked_loop(s: &[u8]) -> RctLoop
+    ensures { λ r. ⌜ r ≡ loopFound (checked (now (s .entry))) (now (s .entry)) ⌝ }
+{
+    let read = walk::read_loop(s, Demands::checked());
+    match read {
+        RctLoop::At {
+            total,
+            count,
+            loop_at,
+        } => {
+            let end = frame::payload_end(total);
+            let v = frame::ending::check_crc(s, end);
+            match v {
+                Verdict::Fine => RctLoop::At {
+                    total,
+                    count,
+                    loop_at,
+                },
+                Verdict::Refused(r) => RctLoop::Refused(r),
+            }
+        }
+        RctLoop::Refused(r) => RctLoop::Refused(r),
+    }
 }

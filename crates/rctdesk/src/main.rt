@@ -1,106 +1,111 @@
 // Carries out a script of calls on a section, a line each, and prints an answer line for each (docs/VECTORS.md).
-mod answer;
-mod desk;
-mod input;
-mod print;
-mod record;
-mod scan;
-mod word;
+mod lend;
 
-use answer::put_error;
-use desk::Desk;
-use desk::MOST;
-use desk::carry_out;
-use input::Line;
-use input::Unread;
-use input::read_line;
-use print::flush;
-use print::put;
+use console::Short;
+use console::lines::Unread;
+use console::lines::read_line;
+use console::print::end_line;
+use console::print::say;
+use lend::MOST;
+use lend::read_lending;
+use wire::spans::Span;
+use wire::spans::handed;
 
 // The most characters that a line has.
 const LONGEST: usize = 32768;
 
-// What is kept from line to line.
-struct Turn {
-    unread: Unread,
-    desk: Desk,
-    is_over: bool,
-}
+// What is wrong with a line.
+const UNKNOWN: Short = *b"error unknown call______";
 
-// The answer to a line, of which `kept` characters came.
-fn answer_line(
-    line: &[u8],
+const EMPTY: Short = *b"error empty line________";
+
+const TOO_LONG: Short = *b"error line too long_____";
+
+// How many characters of the line came, and how much of the buffer and of the text is lent.
+struct Desk {
     kept: usize,
-    buf: &mut [u8],
-    text: &mut [u8],
-    out: &mut [u8],
-    desk: Desk,
-) -> Desk {
-    if kept == 0 {
-        let waiting = put_error(out, desk.waiting, b"empty line");
-        return desk.with(waiting);
-    }
-    if kept > line.len() {
-        let waiting = put_error(out, desk.waiting, b"line too long");
-        return desk.with(waiting);
-    }
-    carry_out(&line[0..kept], buf, text, out, desk)
+    buf: usize,
+    text: usize,
 }
 
-// Reads a line and answers it.
-fn take_turn(
-    block: &mut [u8],
-    line: &mut [u8],
-    buf: &mut [u8],
-    text: &mut [u8],
-    out: &mut [u8],
-    turn: Turn,
-) -> Turn {
-    let desk = turn.desk;
-    let read = read_line(block, line, turn.unread);
-    match read {
-        Line::End => Turn {
-            unread: Unread { from: 0, to: 0 },
-            desk,
-            is_over: true,
-        },
-        Line::Kept(kept, unread) => {
-            let answered = answer_line(&line[..], kept, buf, text, out, desk);
-            let waiting = put(out, answered.waiting, b'\n');
-            Turn {
-                unread,
-                desk: answered.with(waiting),
-                is_over: false,
-            }
+// What is wrong with a line that has no call.
+fn put_error(kept: usize) {
+    if kept == 0 {
+        say(EMPTY);
+        return;
+    }
+    if kept > LONGEST {
+        say(TOO_LONG);
+        return;
+    }
+    say(UNKNOWN);
+}
+
+// The groups of calls, each of which says whether the call was its own: a new group is asked here.
+fn dispatch(line: &[u8], kept: usize, b: &mut [u8], text: &[u8]) {
+    if desk_reads::carry_out(line, &b[..]) {
+        return;
+    }
+    if desk_edits::carry_out(line, b, text) {
+        return;
+    }
+    put_error(kept);
+}
+
+// A call on what is lent, of which there is never more than the arrays hold.
+fn on_lent(line: &[u8], buf: &mut [u8], text: &[u8], desk: Desk) {
+    let b = desk.buf;
+    let t = desk.text;
+    if b <= buf.len() {
+        if t <= text.len() {
+            dispatch(line, desk.kept, &mut buf[0..b], &text[0..t]);
         }
     }
 }
 
-// A proved loop has to end, and nothing says that a script does: so it counts down from a number that no run uses up.
-fn run(block: &mut [u8], line: &mut [u8], buf: &mut [u8], text: &mut [u8], out: &mut [u8]) {
-    let mut turn = Turn {
-        unread: Unread { from: 0, to: 0 },
-        desk: Desk {
-            buf: 0,
-            text: 0,
-            waiting: 0,
-        },
-        is_over: false,
+// Carries out the call that a line has, and answers it.
+fn answer(line: &[u8], buf: &mut [u8], text: &mut [u8], mut desk: Desk) -> Desk {
+    let lending = read_lending(line);
+    let into = lending.into;
+    match into {
+        lend::BUF => desk.buf = lending.lend(line, buf, desk.buf),
+        lend::TEXT => desk.text = lending.lend(line, text, desk.text),
+        _ => on_lent(line, buf, &text[..], desk),
+    }
+    desk
+}
+
+// A proved loop has to end, and nothing says that a script does: so it counts down from a number that no run uses up. Of a
+// line that is too long nothing is handed on.
+fn run(block: &mut [u8], line: &mut [u8], buf: &mut [u8], text: &mut [u8]) {
+    let mut desk = Desk {
+        kept: 0,
+        buf: 0,
+        text: 0,
     };
+    let mut unread = Unread::nothing();
     let mut turns = u64::MAX;
-    while turns > 0 && !turn.is_over {
-        turn = take_turn(block, line, buf, text, out, turn);
+    while turns > 0 {
+        let read = read_line(block, line, unread);
+        if read.is_over {
+            return;
+        }
+        let kept = Span {
+            start: 0,
+            length: read.kept,
+        };
+        desk.kept = read.kept;
+        desk = answer(handed(&line[..], kept), buf, text, desk);
+        end_line();
+        unread = read.unread;
         turns -= 1;
     }
-    let waiting = turn.desk.waiting;
-    flush(&out[..], waiting);
 }
 
 fn main() {
     let mut block = io::large_buffer();
     let mut line = [0u8; LONGEST];
-    let mut buf = [0u8; MOST];
-    let mut text = [0u8; MOST];
-    let mut out = io::large_buffer();
-    run(&mut block, &mut line, &mut buf, &mut text, &mut out);
+    let mut buf = [0u8; MOST as usize];
+    let mut text = [0u8; MOST as usize];
+    run(&mut block, &mut line, &mut buf, &mut text);
 }

@@ -1,10 +1,13 @@
 -- `open` meets its contract: each exit answers the row that it stands for. Assumes nothing.
-use mathlib.Core.Path.{_≡_, sym}
+use mathlib.Core.Path.{_≡_, sym, _∙_, ap}
 use Prim.Native.Nat.{_-_}
 use native.Mathlib.Omega.{arith}
-use borrow.Author.Needs.{needs}
-use Rattle.frame.specs.Frame.{uncounted, declared}
+use Rattle.wire.specs.Verdict.{reached}
+use Rattle.wire.proofs.Verdicts.{at-reached}
+use Rattle.frame.specs.Syntax.{uncounted}
+use Rattle.frame.specs.Reading.{declared}
 use Rattle.frame.proofs.Opening.{opened-short, opened-other, opened-small, opened-cut, opened-long, fine-opened}
+use borrow.Author.Needs.{needs}
 use Rattle.frame.proofs.open.Statement.{statement}
 use Rattle.frame.proofs.open.Tie as tie
 
@@ -15,9 +18,11 @@ refused-requires : tie.Need-refused-requires
 refused-requires c κs = search needs
 
 returns : tie.Need-returns
+unfolding reached
 returns c =
-    let a = c .before .before .before .before .args in
-    rw (c .refused .ensures, c .before .before .least .ensures .0) (sym (opened-short (a .t) (a .most) (a .s .now) (omega arith)))
+    let least = c .before .before .least in
+    let args = c .before .before .before .before .args in
+    rw (c .refused .ensures, least .ensures .0, opened-short (args .t) (args .demands) (args .s .now) (omega arith))
 
 shared-slice-read-id : tie.Need-shared-slice-read-id
 shared-slice-read-id c = search needs
@@ -32,9 +37,12 @@ refused-requires-2 : tie.Need-refused-requires-2
 refused-requires-2 c κs = search needs
 
 returns-2 : tie.Need-returns-2
+unfolding reached
 returns-2 c =
-    let a = c .before .before .before .before .before .before .before .before .before .args in
-    rw (c .refused2 .ensures, c .before .before .wide .ensures .0, c .before .wide2 .ensures .0) (sym (opened-other (a .t) (a .most) (a .s .now) (omega arith) (c .before .before .before .if2 .taken)))
+    let wide = c .before .before .wide in
+    let args = c .before .before .before .before .before .before .before .before .before .args in
+    let if2 = c .before .before .before .if2 in
+    rw (c .refused2 .ensures, wide .ensures .0, c .before .wide2 .ensures .0, opened-other (args .t) (args .demands) (args .s .now) (omega arith) (if2 .taken))
 
 shared-slice-read-total : tie.Need-shared-slice-read-total
 shared-slice-read-total c = search needs
@@ -52,33 +60,44 @@ refused-requires-3 : tie.Need-refused-requires-3
 refused-requires-3 c κs = search needs
 
 returns-3 : tie.Need-returns-3
+unfolding reached
 returns-3 c =
-    let a = c .before .before .before .before .before .before .before .before .before .before .before .args in
-    let n : c .before .before .total .result - uncounted ≡ declared (a .s .now) = omega arith in
-    rw (c .refused3 .ensures, n) (sym (opened-small (a .t) (a .most) (a .s .now) (omega arith) (c .before .before .before .before .before .if2 .left) (omega arith)))
+    let total = c .before .before .total in
+    let args = c .before .before .before .before .before .before .before .before .before .before .before .args in
+    let if2 = c .before .before .before .before .before .if2 in
+    let n : total .result - uncounted ≡ declared (args .s .now) = omega arith in
+    rw (c .refused3 .ensures, n, opened-small (args .t) (args .demands) (args .s .now) (omega arith) (if2 .left) (omega arith))
 
 refused-requires-4 : tie.Need-refused-requires-4
 refused-requires-4 c κs = search needs
 
 returns-4 : tie.Need-returns-4
+unfolding reached
 returns-4 c =
-    let a = c .before .before .before .before .before .before .before .before .before .before .before .before .args in
-    let n : c .before .before .before .total .result - uncounted ≡ declared (a .s .now) = omega arith in
-    rw (c .refused4 .ensures, n) (sym (opened-cut (a .t) (a .most) (a .s .now) (omega arith) (c .before .before .before .before .before .before .if2 .left) (omega arith) (omega arith)))
+    let total = c .before .before .before .total in
+    let args = c .before .before .before .before .before .before .before .before .before .before .before .before .args in
+    let if2 = c .before .before .before .before .before .before .if2 in
+    let n : total .result - uncounted ≡ declared (args .s .now) = omega arith in
+    rw (c .refused4 .ensures, n, opened-cut (args .t) (args .demands) (args .s .now) (omega arith) (if2 .left) (omega arith) (omega arith))
 
 refused-requires-5 : tie.Need-refused-requires-5
 refused-requires-5 c κs = search needs
 
 returns-5 : tie.Need-returns-5
+unfolding reached
 returns-5 c =
-    let a = c .before .before .before .before .before .before .before .before .before .before .before .before .before .args in
-    let n : c .before .before .before .before .total .result - uncounted ≡ declared (a .s .now) = omega arith in
-    rw (c .refused5 .ensures, n) (sym (opened-long (a .t) (a .most) (a .s .now) (omega arith) (c .before .before .before .before .before .before .before .if2 .left) (omega arith) (omega arith) (omega arith)))
+    let total = c .before .before .before .before .before .total in
+    let args = c .before .before .before .before .before .before .before .before .before .before .before .before .before .before .args in
+    let if2 = c .before .before .before .before .before .before .before .before .if2 in
+    let n : total .result - uncounted ≡ declared (args .s .now) = omega arith in
+    rw (c .refused5 .ensures, n, opened-long (args .t) (args .demands) (args .s .now) (omega arith) (if2 .left) (omega arith) (omega arith) (omega arith))
 
 returns-6 : tie.Need-returns-6
 returns-6 c =
-    let a = c .before .before .before .before .before .before .before .before .before .before .before .before .args in
-    sym (fine-opened (a .t) (a .most) (a .s .now) (record { id-is = c .before .before .before .before .before .before .if2 .left; large = omega arith; within = omega arith; limited = omega arith }))
+    let args = c .before .before .before .before .before .before .before .before .before .before .before .before .before .args in
+    let if2 = c .before .before .before .before .before .before .before .if2 in
+    let total = c .before .before .before .before .total in
+    at-reached _ _ _ (fine-opened (args .t) (args .demands) (args .s .now) (record { id-is = if2 .left; large = omega arith; within = omega arith; limited = omega arith })) (sym (total .ensures .0))
 
 pub open-spec : {M : Type 1} → statement M
 open-spec =

@@ -39,7 +39,17 @@ first-of-requires-5 c κs = search needs
 
 returns : tie.Need-returns
 unfolding checkHead
-returns c = rw (c .first-of5 .ensures, c .before .first-of4 .ensures, c .before .before .first-of3 .ensures, c .before .before .before .first-of2 .ensures, c .before .before .before .before .first-of .ensures, c .before .before .before .before .before .narrow6 .ensures, c .before .before .before .before .before .before .narrow5 .ensures, c .before .before .before .before .before .before .before .narrow4 .ensures, c .before .before .before .before .before .before .before .before .narrow3 .ensures, c .before .before .before .before .before .before .before .before .before .narrow2 .ensures, c .before .before .before .before .before .before .before .before .before .before .narrow .ensures)
+returns c =
+    let first-of3 = c .before .before .first-of3 in
+    let two = c .before .before .before .first-of2 in
+    let one = c .before .before .before .before .first-of in
+    let precedence = c .before .before .before .before .before .narrow6 in
+    let group = c .before .before .before .before .before .before .narrow5 in
+    let reserved = c .before .before .before .before .before .before .before .narrow4 in
+    let type = c .before .before .before .before .before .before .before .before .narrow3 in
+    let term = c .before .before .before .before .before .before .before .before .before .narrow2 in
+    let related = c .before .before .before .before .before .before .before .before .before .before .narrow in
+    rw (c .first-of5 .ensures, c .before .first-of4 .ensures, first-of3 .ensures, two .ensures, one .ensures, precedence .ensures, group .ensures, reserved .ensures, type .ensures, term .ensures, related .ensures)
 
 pub check-head-spec : {M : Type 1} → statement M
 check-head-spec =

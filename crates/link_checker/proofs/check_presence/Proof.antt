@@ -17,7 +17,9 @@ has-uri-requires c κs = search needs
 
 returns : tie.Need-returns
 unfolding checkPresence refuse xor _▷_
-returns c = simp (← c .before .before .uri-here .ensures, ← c .before .has-uri .ensures, c .if1 .taken)
+returns c =
+    let uri-here = c .before .before .uri-here in
+    simp (← uri-here .ensures, ← c .before .has-uri .ensures, c .if1 .taken)
 
 locator-here-requires : tie.Need-locator-here-requires
 locator-here-requires c κs = search needs
@@ -28,14 +30,20 @@ has-locator-requires c κs = search needs
 returns-2 : tie.Need-returns-2
 unfolding checkPresence refuse xor _▷_
 returns-2 c =
-    simp (← c .before .before .before .before .before .uri-here .ensures, ← c .before .before .before .before .has-uri .ensures, c .before .before .before .if1 .left)
-    (simp (← c .before .before .locator-here .ensures, ← c .before .has-locator .ensures, c .if2 .taken))
+    let locator-here = c .before .before .locator-here in
+    let uri = c .before .before .before .if1 in
+    let due = c .before .before .before .before .has-uri .ensures in
+    let here = c .before .before .before .before .before .uri-here .ensures in
+    simp (← here, ← due, uri .left) (simp (← locator-here .ensures, ← c .before .has-locator .ensures, c .if2 .taken))
 
 returns-3 : tie.Need-returns-3
 unfolding checkPresence refuse xor _▷_
 returns-3 c =
-    simp (← c .before .before .before .before .before .uri-here .ensures, ← c .before .before .before .before .has-uri .ensures, c .before .before .before .if1 .left)
-    (simp (← c .before .before .locator-here .ensures, ← c .before .has-locator .ensures, c .if2 .left))
+    let locator-here = c .before .before .locator-here in
+    let uri = c .before .before .before .if1 in
+    let due = c .before .before .before .before .has-uri .ensures in
+    let here = c .before .before .before .before .before .uri-here .ensures in
+    simp (← here, ← due, uri .left) (simp (← locator-here .ensures, ← c .before .has-locator .ensures, c .if2 .left))
 
 pub check-presence-spec : {M : Type 1} → statement M
 check-presence-spec =

@@ -3,21 +3,21 @@
 use Prim.Native.Nat.{_-_, _≤_}
 use mathlib.Core.Path.{_≡_, refl, sym, ap, _∙_}
 use native.Mathlib.Omega.{arith}
-use Rattle.link.specs.Records.{itemRead}
-use Rattle.link_items.specs.Steps.{placeAfter}
-use Rattle.link_items.proofs.Laws.{place-on, refused-stays}
+use Rattle.link.specs.Answers.{itemRead}
+use Rattle.link_items.specs.Steps.{numberAfter}
+use Rattle.link_items.proofs.Laws.{number-on, refused-stays}
 use borrow.Author.Needs.{needs}
 use Rattle.link_items.proofs.item_after.Statement.{statement}
 use Rattle.link_items.proofs.item_after.Tie as tie
 
 abbrev Inv-loop : tie.InvT-loop
-Inv-loop body steps place₀ place = (place ≤ steps) × (placeAfter body place ≡ place)
+Inv-loop body steps number₀ number = (number ≤ steps) × (numberAfter body number ≡ number)
 
 abbrev μ-loop : tie.MeasureT-loop
-μ-loop body steps place₀ place = steps - place
+μ-loop body steps number₀ number = steps - number
 
 loop-holds : tie.Need-loop-holds Inv-loop μ-loop
-unfolding placeAfter
+unfolding numberAfter
 loop-holds c = (omega arith, refl)
 
 step-from-requires : tie.Need-step-from-requires Inv-loop μ-loop
@@ -31,33 +31,38 @@ enum-told-2 c = search needs
 
 returns : tie.Need-returns Inv-loop μ-loop
 returns c =
-    let xs = c .before .before .before .before .before .before .args .body .now in
+    let step-from = c .before .before .step-from in
+    let start = c .before .before .before .before .before .before .args in
+    let xs = start .body .now in
     let l = c .before .before .before .before .loop in
-    let told = sym (ap (λ s. s .item) (c .before .before .step-from .ensures)) ∙ c .enum-told2 .given .1 in
-    c .enum-told2 .given .1 ∙ sym (refused-stays xs (l .place) (c .before .before .before .before .before .before .args .steps) _ (l .inv .0) (ap (itemRead 0 xs) (l .inv .1) ∙ told))
+    let told = sym (ap (λ s. s .item) (step-from .ensures)) ∙ c .enum-told2 .given .1 in
+    c .enum-told2 .given .1 ∙ sym (refused-stays xs (l .number) (start .steps) _ (l .inv .0) (ap (itemRead 0 xs) (l .inv .1) ∙ told))
 
-add-place : tie.Need-add-place Inv-loop μ-loop
-add-place c = search needs
+add-number : tie.Need-add-number Inv-loop μ-loop
+add-number c = search needs
 
 loop-less : tie.Need-loop-less Inv-loop μ-loop
 loop-less c = search needs
 
 loop-again : tie.Need-loop-again Inv-loop μ-loop
 loop-again c =
+    let step-from = c .before .before .step-from in
+    let xs = c .before .before .before .before .before .before .args .body .now in
     let l = c .before .before .before .before .loop in
-    let told = sym (ap (λ s. s .item) (c .before .before .step-from .ensures)) ∙ c .enum-told .given .1 in
-    (omega (arith, c .before .before .before .loop-test .taken), place-on (c .before .before .before .before .before .before .args .body .now) (l .place) _ (l .inv .1) told)
+    let test = c .before .before .before .loop-test .taken in
+    let told = sym (ap (λ s. s .item) (step-from .ensures)) ∙ c .enum-told .given .1 in
+    (omega arith, number-on xs (l .number) _ (l .inv .1) told)
 
 step-from-requires-2 : tie.Need-step-from-requires-2 Inv-loop μ-loop
 step-from-requires-2 c κs = search needs
 
 returns-2 : tie.Need-returns-2 Inv-loop μ-loop
 returns-2 c =
-    let xs = c .before .before .before .before .args .body .now in
+    let start = c .before .before .before .before .args in
+    let xs = start .body .now in
     let l = c .before .before .loop in
-    let steps = c .before .before .before .before .args .steps in
-    let at : l .place ≡ steps = omega (arith, l .inv .0, c .before .loop-test .left) in
-    ap (λ s. s .item) (c .step-from2 .ensures) ∙ sym (ap (itemRead 0 xs) (sym (ap (placeAfter xs) at) ∙ (l .inv .1 ∙ at)))
+    let at : l .number ≡ start .steps = omega (arith, l .inv .0, c .before .loop-test .left) in
+    ap (λ s. s .item) (c .step-from2 .ensures) ∙ sym (ap (itemRead 0 xs) (sym (ap (numberAfter xs) at) ∙ (l .inv .1 ∙ at)))
 
 pub item-after-spec : {M : Type 1} → statement M
 item-after-spec =
@@ -70,7 +75,7 @@ item-after-spec =
     enum-told
     enum-told-2
     returns
-    add-place
+    add-number
     loop-less
     loop-again
     step-from-requires-2

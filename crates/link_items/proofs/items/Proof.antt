@@ -1,5 +1,5 @@
--- `items::items` meets its contract: a walk of its MIR, by hand. A reader is made of the slice passed and 0, in the result's local.
--- A `&[u8]` is Copy, so what it owns is had twice: once for the slice at exit, and once inside the result, beside the facts of the place.
+-- `link_items::items` meets its contract: a walk of its MIR, by hand. A reader is made of the slice passed and 0, in the result's local.
+-- A `&[u8]` is Copy, so what it owns is had twice: once for the slice at exit, and once inside the result, beside the facts of the number.
 -- Assumes nothing.
 use mathlib.Core.Path.{refl}
 use Prim.Native.Nat.{ℕ}
@@ -38,7 +38,7 @@ use denote.Exit.{yes}
 use Rattle.link_items.specs.declared.ItemReader.{ItemReader}
 use Rattle.link_items.proofs.ItemReader as T
 use Rattle.link_items.proofs.ItemReader.Laws as T′
-use Rattle.link_items.proofs.items.Key.{name as #items·items}
+use Rattle.link_items.proofs.items.Key.{name as #items}
 use Rattle.link_items.proofs.items as items
 use Rattle.link_items.proofs.items.Statement as stated
 use Rattle.link_items.proofs.items.Code as code
@@ -71,7 +71,7 @@ module _ {M : Type 1} (𝓤 : URA M) (H : Heap 𝓤) (A : Atoms 𝓤) (W : Given
       qed W ((‵ (flft κ q) ⊛ ‵ ftrue) ∷ ‵ (owns (ShrSlice (named 0) κ u8 ∷ []) (s, tt) at) ∷ []) ∵
       suffices ! _ (ends-at 𝓤 H A items.ended stayed (items.clauses 𝓤 H A mem run) W (((κ, tt), (q, tt), tt, (s, tt), at), tt) (T′.lowered made) made (tt, tt) (tt, tt)) $ says ! refl $
       frame ! $ fsplit ! $ use1 W (‵ Own ⊛ ‵ Own) (shr-slice-copy 𝓤 H A W (named 0) κ u8 .twice s (v ∷ [])) $ split ! $ move ! (0 ∷ 2 ∷ []) $ fjoin ! $ frame ! $
-      -- [what body owns]: what the fields own together, of it and of the place's facts, is what the struct owns
+      -- [what body owns]: what the fields own together, of it and of the number's facts, is what the struct owns
       nothing ! $ owned ! usize (Is usize) (uint-makes 𝓤 H A W w64) 0 _ (refl, lit< tt) $ fjoin ! $ move ! (1 ∷ 0 ∷ []) $ fjoin ! $ by ! (own-shut 𝓤 H A W (T.the-type α) (T′.the-laws α) (s, (0, tt)))
 
   module _ (C : Calls 𝓤 H) (Λ : Loops 𝓤 H) where
@@ -95,5 +95,5 @@ pub items-spec : {M : Type 1} → stated.statement M
 unfolding code.routine tablesOf
 items-spec 𝓤 H 𝓜 𝓖 𝓡 =
     entered 𝓤 H (tripleOf 𝓤 H (𝓖 .A) items.signature (items.spec 𝓤 H (𝓖 .A) (𝓜 .mem) (𝓡 .run)))
-    (tables 𝓤 H 𝓜 𝓡 code.env .C) (tables 𝓤 H 𝓜 𝓡 code.env .Λ) #items·items code.function (code.unfolded 𝓤 H 𝓜 𝓡)
+    (tables 𝓤 H 𝓜 𝓡 code.env .C) (tables 𝓤 H 𝓜 𝓡 code.env .Λ) #items code.function (code.unfolded 𝓤 H 𝓜 𝓡)
     (items-meets 𝓤 H (𝓖 .A) (givenOf 𝓤 H 𝓜 𝓖) (𝓜 .mem) (𝓡 .run) (tablesOf 𝓤 H 𝓜 (tables 𝓤 H 𝓜 𝓡 code.env)))

@@ -1,4 +1,4 @@
--- `items::step_from` meets its contract: a walk of its MIR, by hand. A reader is made in a local and lent to `next`, for a lifetime that is made for the call, within that of the slice; behind the call the lifetime is ended, and the reader comes back as `next` left it. All that the proof knows of `next` is that it meets its contract.
+-- `link_items::step_from` meets its contract: a walk of its MIR, by hand. A reader is made in a local and lent to `next`, for a lifetime that is made for the call, within that of the slice; behind the call the lifetime is ended, and the reader comes back as `next` left it. All that the proof knows of `next` is that it meets its contract.
 -- A `&[u8]` is Copy, so what it owns is had twice: once for the slice at exit, and once inside the reader.
 -- Assumes nothing.
 use mathlib.Core.Path.{_≡_, refl, ap}
@@ -48,7 +48,7 @@ use denote.Triple.Spec.{Meets, tripleOf}
 use denote.Triple.Table.{entered, cited}
 use denote.Triple.Walked.{says, Stays, stay-none, stay-none-slice, walkOf, goes-none, goes-none-slice, Walks, ends-at, walked, walk-meets}
 use denote.Exit.{yes}
-use Rattle.link.specs.Records.{itemRead}
+use Rattle.link.specs.Answers.{itemRead}
 use Rattle.link.specs.declared.reading.ItemRead.{ItemRead}
 use Rattle.link.proofs.reading.ItemRead as E
 use Rattle.link.proofs.reading.ItemRead.Laws as E′
@@ -62,9 +62,9 @@ use Rattle.link_items.proofs.Stepped.Laws as S′
 use Rattle.link_items.proofs.StepValue.{step-val}
 use Rattle.link_items.proofs.next as next
 use Rattle.link_items.proofs.next.Symbol as next-def
-use Rattle.link_items.proofs.next.Symbol.{name as #items·next}
+use Rattle.link_items.proofs.next.Symbol.{name as #next}
 use Rattle.link_items.proofs.next.Met as next-thm
-use Rattle.link_items.proofs.step_from.Key.{name as #items·step-from}
+use Rattle.link_items.proofs.step_from.Key.{name as #step-from}
 use Rattle.link_items.proofs.step_from as step-from
 use Rattle.link_items.proofs.step_from.Statement as stated
 use Rattle.link_items.proofs.step_from.Code as code
@@ -159,7 +159,7 @@ module _ {M : Type 1} (𝓤 : URA M) (H : Heap 𝓤) (A : Atoms 𝓤) (W : Given
       suffices ! _ (ends-at 𝓤 H A step-from.ended stayed (step-from.clauses 𝓤 H A at-mem run) W (((κ, tt), (q, tt), tt, (s, (n, tt)), vals), tt) (step-val r) r (tt, (tt, tt)) (tt, (tt, tt))) $ says ! e $
       nothing ! $ move ! (2 ∷ 0 ∷ []) $ join ! $ frame ! $ nothing ! $ owned ! usize (Is usize) (uint-makes 𝓤 H A W w64) n _ (refl, ok) $ fjoin ! $ move ! (2 ∷ 0 ∷ []) $ fjoin ! $ done !
 
-  module _ (C : Calls 𝓤 H) (Λ : Loops 𝓤 H) (fm : FmC 𝓤 H (W .laws) C) (known : Triple 𝓤 (C #items·next) (Next 𝓤 H A at-mem run)) where
+  module _ (C : Calls 𝓤 H) (Λ : Loops 𝓤 H) (fm : FmC 𝓤 H (W .laws) C) (known : Triple 𝓤 (C #next) (Next 𝓤 H A at-mem run)) where
     walk : Is (ShrSlice (named 0) κ u8) s (v ∷ []) → ent 𝓤 (onEntry 𝓤 H A step-from.signature (κ, tt) (q, tt) (s, (n, tt)) vals) (WpFn 𝓤 H C Λ code.function (v ∷ vint w64 n ∷ []) Post)
     walk p =
         let typed = shr-slice-lawful 𝓤 H A W (named 0) κ u8 .typed s (v ∷ []) p .0 in
@@ -201,13 +201,13 @@ module _ {M : Type 1} (𝓤 : URA M) (H : Heap 𝓤) (A : Atoms 𝓤) (W : Given
         keep ! (0 ∷ 1 ∷ 5 ∷ []) $ by ! (exits (record { item = i; next = z .0 .next }) (λ j. record { item = e .0 j; next = e .1 j .next }))))))))))))))))))
 
 module _ {M : Type 1} (𝓤 : URA M) (H : Heap 𝓤) (A : Atoms 𝓤) (W : Given 𝓤 H A) (mem : Memory → SProp 𝓤) (run : Routine → Fun 𝓤) where
-  step-from-walks : (C : Calls 𝓤 H) (Λ : Loops 𝓤 H) → FmC 𝓤 H (W .laws) C → Triple 𝓤 (C #items·next) (Next 𝓤 H A mem run)
+  step-from-walks : (C : Calls 𝓤 H) (Λ : Loops 𝓤 H) → FmC 𝓤 H (W .laws) C → Triple 𝓤 (C #next) (Next 𝓤 H A mem run)
       → Walks 𝓤 H A step-from.ended stayed (WpFn 𝓤 H C Λ code.function) (step-from.clauses 𝓤 H A mem run)
   step-from-walks C Λ fm known = walked 𝓤 H A step-from.ended stayed (step-from.clauses 𝓤 H A mem run) (WpFn 𝓤 H C Λ code.function) (λ κs. (slice-vals, (uint-vals w64, tt))) (λ κs. (shr-slice-tells (named 0) (κs .0) u8, (uint-tells w64, tt)))
       (λ κs qs bounds a g are. via 𝓤 _ (fst∗ 𝓤 _ (emp 𝓤)) (walk 𝓤 H A W mem run (κs .0) (qs .0) (a .0) (a .1 .0) (are .1 .0 .1) C Λ fm known (are .0)))
 
 step-from-meets : {M : Type 1} (𝓤 : URA M) (H : Heap 𝓤) (A : Atoms 𝓤) (W : Given 𝓤 H A) (mem : Memory → SProp 𝓤) (run : Routine → Fun 𝓤) (𝓣 : Tables 𝓤 H)
-    → Triple 𝓤 (𝓣 .C #items·next) (Next 𝓤 H A mem run)
+    → Triple 𝓤 (𝓣 .C #next) (Next 𝓤 H A mem run)
     → Meets 𝓤 H A step-from.signature (WpFn 𝓤 H (𝓣 .C) (𝓣 .Λ) code.function) (step-from.spec 𝓤 H A mem run)
 step-from-meets 𝓤 H A W mem run 𝓣 known = walk-meets 𝓤 H A step-from.ended stayed W (goes-none-slice 𝓤 H A W 1 (0 ∷ []) tt (plain (λ _. u8)) yes, (goes-none 𝓤 H A W 1 (λ _. usize) yes (λ κs x f. refl), tt)) (step-from.clauses 𝓤 H A mem run) (WpFn 𝓤 H (𝓣 .C) (𝓣 .Λ) code.function) (WpFn-mono 𝓤 H (W .laws) 𝓣 code.function)
     (step-from-walks 𝓤 H A W mem run (𝓣 .C) (𝓣 .Λ) (fmOf 𝓤 H (W .laws) 𝓣) known)
@@ -216,6 +216,6 @@ pub step-from-spec : {M : Type 1} → stated.statement M
 unfolding code.routine tablesOf
 step-from-spec 𝓤 H 𝓜 𝓖 𝓡 =
     entered 𝓤 H (tripleOf 𝓤 H (𝓖 .A) step-from.signature (step-from.spec 𝓤 H (𝓖 .A) (𝓜 .mem) (𝓡 .run)))
-    (tables 𝓤 H 𝓜 𝓡 code.env .C) (tables 𝓤 H 𝓜 𝓡 code.env .Λ) #items·step-from code.function (code.unfolded 𝓤 H 𝓜 𝓡)
+    (tables 𝓤 H 𝓜 𝓡 code.env .C) (tables 𝓤 H 𝓜 𝓡 code.env .Λ) #step-from code.function (code.unfolded 𝓤 H 𝓜 𝓡)
     (step-from-meets 𝓤 H (𝓖 .A) (givenOf 𝓤 H 𝓜 𝓖) (𝓜 .mem) (𝓡 .run) (tablesOf 𝓤 H 𝓜 (tables 𝓤 H 𝓜 𝓡 code.env))
-    (cited 𝓤 H (Next 𝓤 H (𝓖 .A) (𝓜 .mem) (𝓡 .run)) 𝓜 𝓡 code.env #items·next next-def.routine code.calls-link-items·next (next-thm.met 𝓤 H 𝓜 𝓖 𝓡)))
+    (cited 𝓤 H (Next 𝓤 H (𝓖 .A) (𝓜 .mem) (𝓡 .run)) 𝓜 𝓡 code.env #next next-def.routine code.calls-link-items·next (next-thm.met 𝓤 H 𝓜 𝓖 𝓡)))

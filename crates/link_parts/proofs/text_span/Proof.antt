@@ -1,11 +1,9 @@
 -- `text_span` meets its contract. Assumes nothing.
-use mathlib.Core.Path.{sym, _∙_}
-use native.Mathlib.Omega.{arith}
-use Rattle.link.specs.Parts.{textSpan}
-use Rattle.link.proofs.Bounds.{item-had, item-not, text-had}
-use borrow.Author.Needs.{needs}
+use Rattle.link.proofs.Parts.{text-got, text-not}
 use Rattle.link_parts.proofs.text_span.Statement.{statement}
 use Rattle.link_parts.proofs.text_span.Tie as tie
+use borrow.Author.Needs.{needs}
+use mathlib.Core.Path.{sym, _∙_}
 
 read-item-requires : tie.Need-read-item-requires
 read-item-requires c κs = search needs
@@ -23,15 +21,17 @@ enum-told : tie.Need-enum-told
 enum-told c = search needs
 
 returns : tie.Need-returns
-unfolding textSpan
 returns c =
-    let s = c .before .before .before .before .before .before .before .before .args .s .now in
-    let g = item-had _ s (c .before .before .before .before .before .before .before .before .args .number) _ (sym (c .before .before .before .before .before .before .read-item .ensures) ∙ c .before .before .before .before .read .given .1) in
-    text-had s (c .before .before .before .before .before .before .before .before .args .number) _ (g .0) (g .1)
+    let start = c .before .before .before .before .before .before .before .before .args in
+    let read = c .before .before .before .before .before .before .read-item .ensures in
+    let got = c .before .before .before .before .read .given .1 in
+    text-got (start .s .now) (start .number) _ (sym read ∙ got)
 
 returns-2 : tie.Need-returns-2
-unfolding textSpan
-returns-2 c = (rw (item-not _ (c .before .before .before .before .args .s .now) _ _ (sym (c .before .before .read-item .ensures) ∙ c .enum-told .given .1)), omega arith)
+returns-2 c =
+    let start = c .before .before .before .before .args in
+    let read = c .before .before .read-item .ensures in
+    text-not (start .s .now) (start .number) _ (sym read ∙ c .enum-told .given .1)
 
 pub text-span-spec : {M : Type 1} → statement M
 text-span-spec =

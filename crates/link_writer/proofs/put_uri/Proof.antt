@@ -1,14 +1,6 @@
 -- `put_uri` meets its contract. Assumes nothing.
-use mathlib.Core.Path.{_∙_}
-use native.Mathlib.Omega.{arith}
-use lib.ListN.{length-set}
-use Rattle.field.specs.Fields.{uriLength}
-use Rattle.wire.proofs.Writing.{wrote0, wrote1, wrote-length}
-use Rattle.link.specs.Syntax.{uriBytes}
-use Rattle.link_draft.specs.Checks.{checkUri}
-use Rattle.link_draft.specs.Lengths.{uriSize}
-use Rattle.link_draft.proofs.Rows.{field-passed}
-use Rattle.link_draft.proofs.Putting.{uri-wrote}
+use Rattle.link_draft.specs.Writing.{uriParts}
+use Rattle.link_writer.proofs.Stages.{puts-none}
 use borrow.Author.Needs.{needs}
 use Rattle.link_writer.proofs.put_uri.Statement.{statement}
 use Rattle.link_writer.proofs.put_uri.Tie as tie
@@ -19,30 +11,29 @@ enum-told c = search needs
 enum-known-uri : tie.Need-enum-known-uri
 enum-known-uri c = search needs
 
-cast-b : tie.Need-cast-b
-unfolding checkUri
-cast-b c = omega (arith, field-passed uriLength _ (rw (c .before .before .uri .given .1) at (c .before .before .before .before .before .before .pre .0)))
+length-byte-requires : tie.Need-length-byte-requires
+length-byte-requires c κs = search needs
 
-slice-write-b : tie.Need-slice-write-b
-unfolding uriSize
-slice-write-b c = omega (arith, rw (c .before .before .uri .given .1) at (c .before .before .before .before .before .before .pre .1 .1))
+slice-aggregate-put-headed : tie.Need-slice-aggregate-put-headed
+slice-aggregate-put-headed c = search needs
 
-add-put-range : tie.Need-add-put-range
-add-put-range c = search needs
-
-put-range-requires : tie.Need-put-range-requires
-unfolding uriSize
-put-range-requires c κs = (rw (c .before .before .before .uri .given .1) at (c .before .before .before .before .before .before .before .pre .1 .0), simp length-set (omega (arith, rw (c .before .before .before .uri .given .1) at (c .before .before .before .before .before .before .before .pre .1 .1))))
+put-headed-requires : tie.Need-put-headed-requires
+put-headed-requires c κs = search needs
 
 returns : tie.Need-returns
-unfolding uriBytes
-returns c = rw (c .enum-told .given .1) (wrote0 _ _)
+unfolding uriParts
+returns c = rw (c .enum-told .given .1) (puts-none _ _)
 
 same-length : tie.Need-same-length
-same-length c = wrote-length (c .before .before .put-range .ensures) ∙ simp length-set
+same-length c = search needs
 
 returns-2 : tie.Need-returns-2
-returns-2 c = rw (c .before .before .before .before .before .before .uri .given .1) (uri-wrote (c .before .before .before .before .before .before .before .before .before .before .args .text .now) _ _ _ _ _ _ _ (rw (c .before .before .before .before .before .before .uri .given .1) at (c .before .before .before .before .before .before .before .before .before .before .pre .1 .0)) (wrote1 _ _ _) (c .before .before .put-range .ensures))
+unfolding uriParts
+returns-2 c =
+    let put-headed = c .before .before .put-headed in
+    let uri = c .before .before .before .before .before .before .before .uri .given .1 in
+    let length = c .before .before .before .before .before .length-byte .ensures in
+    rw uri (rw length at (put-headed .ensures))
 
 pub put-uri-spec : {M : Type 1} → statement M
 put-uri-spec =
@@ -50,10 +41,9 @@ put-uri-spec =
     (tie.spec
     enum-told
     enum-known-uri
-    cast-b
-    slice-write-b
-    add-put-range
-    put-range-requires
+    length-byte-requires
+    slice-aggregate-put-headed
+    put-headed-requires
     returns
     same-length
     returns-2)

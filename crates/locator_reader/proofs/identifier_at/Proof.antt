@@ -24,22 +24,36 @@ returns : tie.Need-returns
 returns c = simp (eq-eqb _ _ (c .if1 .taken))
 
 be16-at-requires : tie.Need-be16-at-requires
-be16-at-requires c κs = omega (arith, with-id (c .before .before .args .head) (c .if1 .left))
+be16-at-requires c κs =
+    let args = c .before .before .args in
+    omega (arith, with-id (args .head) (c .if1 .left))
 
 add-t7 : tie.Need-add-t7
 add-t7 c = search needs
 
 shared-slice-read-t9 : tie.Need-shared-slice-read-t9
-shared-slice-read-t9 c = omega (arith, simp (ne-eqb _ _ (c .before .before .before .if1 .left), eq-eqb _ _ (c .before .if2 .taken)) at (c .before .before .before .before .before .pre))
+shared-slice-read-t9 c =
+    let if1 = c .before .before .before .if1 in
+    let pre = c .before .before .before .before .before .pre in
+    omega (arith, simp (ne-eqb _ _ (if1 .left), eq-eqb _ _ (c .before .if2 .taken)) at pre)
 
 returns-2 : tie.Need-returns-2
-returns-2 c = simp (ne-eqb _ _ (c .before .before .before .if1 .left), eq-eqb _ _ (c .before .if2 .taken)) (rw (c .before .before .be16-at .ensures))
+returns-2 c =
+    let be16-at = c .before .before .be16-at in
+    let if1 = c .before .before .before .if1 in
+    simp (ne-eqb _ _ (if1 .left), eq-eqb _ _ (c .before .if2 .taken)) (rw (be16-at .ensures))
 
 returns-3 : tie.Need-returns-3
-returns-3 c = simp (ne-eqb _ _ (c .before .before .before .if1 .left), ne-eqb _ _ (c .before .if2 .left), eq-eqb _ _ (c .if3 .taken)) (rw (c .before .before .be16-at .ensures))
+returns-3 c =
+    let be16-at = c .before .before .be16-at in
+    let if1 = c .before .before .before .if1 in
+    simp (ne-eqb _ _ (if1 .left), ne-eqb _ _ (c .before .if2 .left), eq-eqb _ _ (c .if3 .taken)) (rw (be16-at .ensures))
 
 returns-4 : tie.Need-returns-4
-returns-4 c = simp (ne-eqb _ _ (c .before .before .before .if1 .left), ne-eqb _ _ (c .before .if2 .left), ne-eqb _ _ (c .if3 .left)) (rw (c .before .before .be16-at .ensures))
+returns-4 c =
+    let be16-at = c .before .before .be16-at in
+    let if1 = c .before .before .before .if1 in
+    simp (ne-eqb _ _ (if1 .left), ne-eqb _ _ (c .before .if2 .left), ne-eqb _ _ (c .if3 .left)) (rw (be16-at .ensures))
 
 pub identifier-at-spec : {M : Type 1} → statement M
 identifier-at-spec = tie.close (tie.spec returns be16-at-requires add-t7 shared-slice-read-t9 returns-2 returns-3 returns-4)

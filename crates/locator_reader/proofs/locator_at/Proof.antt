@@ -36,8 +36,34 @@ add-windows-at c = search needs
 windows-at-requires : tie.Need-windows-at-requires
 windows-at-requires c κs = search needs
 
+with-reserved-requires : tie.Need-with-reserved-requires
+with-reserved-requires c κs = search needs
+
 returns : tie.Need-returns
-returns c = rw (c .windows-at .ensures, c .before .identifier-at .ensures, c .before .before .be16-at2 .ensures, c .before .before .before .be16-at .ensures, c .before .before .before .before .service-at .ensures, c .before .before .before .before .before .low2 .ensures, c .before .before .before .before .before .before .low .ensures, c .before .before .before .before .before .before .before .reliable .ensures)
+returns c =
+    let identifier-at = c .before .before .identifier-at in
+    let be16-at2 = c .before .before .before .be16-at2 in
+    let be16-at = c .before .before .before .before .be16-at in
+    let service-at = c .before .before .before .before .before .service-at in
+    let low2 = c .before .before .before .before .before .before .low2 in
+    let low = c .before .before .before .before .before .before .before .low in
+    let reliable = c .before .before .before .before .before .before .before .before .reliable in
+    rw (c .with-reserved .ensures, c .before .windows-at .ensures, identifier-at .ensures, be16-at2 .ensures, be16-at .ensures, service-at .ensures, low2 .ensures, low .ensures, reliable .ensures)
 
 pub locator-at-spec : {M : Type 1} → statement M
-locator-at-spec = tie.close (tie.spec reliable-requires low-requires low-requires-2 service-at-requires be16-at-requires add-be16-at be16-at-requires-2 add-identifier-at identifier-at-requires add-windows-at windows-at-requires returns)
+locator-at-spec =
+    tie.close
+    (tie.spec
+    reliable-requires
+    low-requires
+    low-requires-2
+    service-at-requires
+    be16-at-requires
+    add-be16-at
+    be16-at-requires-2
+    add-identifier-at
+    identifier-at-requires
+    add-windows-at
+    windows-at-requires
+    with-reserved-requires
+    returns)

@@ -12,7 +12,9 @@ returns : tie.Need-returns
 returns c = (simp (← c .before .windows-due .ensures, c .if1 .taken), omega arith)
 
 returns-2 : tie.Need-returns-2
-returns-2 c = (simp (← c .before .before .windows-due .ensures, c .before .if1 .left) (simp (eq-eqb _ _ (c .if2 .taken))), omega arith)
+returns-2 c =
+    let windows-due = c .before .before .windows-due in
+    (simp (← windows-due .ensures, c .before .if1 .left) (simp (eq-eqb _ _ (c .if2 .taken))), omega arith)
 
 add-result : tie.Need-add-result
 add-result c = search needs

@@ -38,11 +38,17 @@ mul-result-3 c = search needs
 add-result-2 : tie.Need-add-result-2
 add-result-2 c = search needs
 
+low-requires : tie.Need-low-requires
+low-requires c κs = search needs
+
 mul-result-4 : tie.Need-mul-result-4
 mul-result-4 c = search needs
 
 add-result-3 : tie.Need-add-result-3
 add-result-3 c = search needs
+
+low-requires-2 : tie.Need-low-requires-2
+low-requires-2 c κs = search needs
 
 mul-result-5 : tie.Need-mul-result-5
 mul-result-5 c = search needs
@@ -57,7 +63,35 @@ add-result-5 : tie.Need-add-result-5
 add-result-5 c = search needs
 
 returns : tie.Need-returns
-returns c = rw (c .last-bits .ensures .0, c .before .before .before .flag2 .ensures .0 ∙ ap bit (c .before .before .before .before .inline-service .ensures), c .before .before .before .before .before .flag .ensures .0, c .before .before .before .before .before .before .identifier-type .ensures .0)
+returns c =
+    let low = c .before .before .low in
+    let flag2 = c .before .before .before .flag2 in
+    let inline-service = c .before .before .before .before .inline-service in
+    let flag = c .before .before .before .before .before .flag in
+    let identifier-type = c .before .before .before .before .before .before .identifier-type in
+    rw (c .last-bits .ensures .0, c .before .low2 .ensures, low .ensures, flag2 .ensures .0 ∙ ap bit (inline-service .ensures), flag .ensures .0, identifier-type .ensures .0)
 
 pub head-spec : {M : Type 1} → statement M
-head-spec = tie.close (tie.spec identifier-type-requires mul-result flag-requires cast-result mul-result-2 add-result inline-service-requires flag-requires-2 cast-result-2 mul-result-3 add-result-2 mul-result-4 add-result-3 mul-result-5 add-result-4 last-bits-requires add-result-5 returns)
+head-spec =
+    tie.close
+    (tie.spec
+    identifier-type-requires
+    mul-result
+    flag-requires
+    cast-result
+    mul-result-2
+    add-result
+    inline-service-requires
+    flag-requires-2
+    cast-result-2
+    mul-result-3
+    add-result-2
+    low-requires
+    mul-result-4
+    add-result-3
+    low-requires-2
+    mul-result-5
+    add-result-4
+    last-bits-requires
+    add-result-5
+    returns)

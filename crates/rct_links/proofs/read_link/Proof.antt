@@ -1,112 +1,71 @@
 -- `read_link` meets its contract. Assumes nothing.
-use mathlib.Core.Path.{_≡_, sym, _∙_}
+use mathlib.Core.Path.{_≡_, ap, sym, _∙_}
 use native.Mathlib.Omega.{arith}
-use Rattle.wire.proofs.Parts.{bytes-known}
-use Rattle.link.proofs.Bounds.{answer-refused}
-use Rattle.rct_walker.specs.Links.{numberedLink}
-use Rattle.rct_walker.proofs.Entries.{located-stop}
-use Rattle.rct_links.proofs.Numbers.{number-known, number-link}
+use Rattle.wire.proofs.Lists.{bytes-known}
+use Rattle.rct_links.specs.declared.NumberedBody.{NumberedBody}
+use Rattle.rct_links.proofs.Numbers.{body-verdict, body-known, number-link, link-stopped}
 use borrow.Author.Needs.{needs}
 use Rattle.rct_links.proofs.read_link.Statement.{statement}
 use Rattle.rct_links.proofs.read_link.Tie as tie
 
-numbered-requires : tie.Need-numbered-requires
-numbered-requires c κs = search needs
+numbered-body-requires : tie.Need-numbered-body-requires
+numbered-body-requires c κs = search needs
 
-enum-known-found : tie.Need-enum-known-found
-enum-known-found c = search needs
+enum-told : tie.Need-enum-told
+enum-told c = search needs
 
-add-start : tie.Need-add-start
-add-start c =
-    let s = c .before .before .before .before .before .args .s .now in
-    let n = number-known s _ _ _ _ (bytes-known s (c .before .before .before .before .shared-slice-known .given)) (sym (c .before .before .before .numbered .ensures) ∙ c .before .found .given .1) in
-    search needs
-
-shared-slice-read-of-bytes : tie.Need-shared-slice-read-of-bytes
-shared-slice-read-of-bytes c =
-    let s = c .before .before .before .before .before .before .args .s .now in
-    let n = number-known s _ _ _ _ (bytes-known s (c .before .before .before .before .before .shared-slice-known .given)) (sym (c .before .before .before .before .numbered .ensures) ∙ c .before .before .found .given .1) in
-    search needs
-
-add-of-bytes : tie.Need-add-of-bytes
-add-of-bytes c =
-    let s = c .before .before .before .before .before .before .args .s .now in
-    let n = number-known s _ _ _ _ (bytes-known s (c .before .before .before .before .before .shared-slice-known .given)) (sym (c .before .before .before .before .numbered .ensures) ∙ c .before .before .found .given .1) in
-    search needs
-
-shared-slice-read-of-bytes-2 : tie.Need-shared-slice-read-of-bytes-2
-shared-slice-read-of-bytes-2 c =
-    let s = c .before .before .before .before .before .before .before .args .s .now in
-    let n = number-known s _ _ _ _ (bytes-known s (c .before .before .before .before .before .before .shared-slice-known .given)) (sym (c .before .before .before .before .before .numbered .ensures) ∙ c .before .before .before .found .given .1) in
-    search needs
-
-of-bytes-requires : tie.Need-of-bytes-requires
-of-bytes-requires c κs = search needs
-
-sub-read-link : tie.Need-sub-read-link
-sub-read-link c =
-    let s = c .before .before .before .before .before .before .before .before .args .s .now in
-    let n = number-known s _ _ _ _ (bytes-known s (c .before .before .before .before .before .before .before .shared-slice-known .given)) (sym (c .before .before .before .before .before .before .numbered .ensures) ∙ c .before .before .before .before .found .given .1) in
-    search needs
-
-part-read-link-start : tie.Need-part-read-link-start
-part-read-link-start c =
-    let s = c .before .before .before .before .before .before .before .before .args .s .now in
-    let n = number-known s _ _ _ _ (bytes-known s (c .before .before .before .before .before .before .before .shared-slice-known .given)) (sym (c .before .before .before .before .before .before .numbered .ensures) ∙ c .before .before .before .before .found .given .1) in
-    search needs
-
-part-read-link-end : tie.Need-part-read-link-end
-part-read-link-end c =
-    let s = c .before .before .before .before .before .before .before .before .args .s .now in
-    let n = number-known s _ _ _ _ (bytes-known s (c .before .before .before .before .before .before .before .shared-slice-known .given)) (sym (c .before .before .before .before .before .before .numbered .ensures) ∙ c .before .before .before .before .found .given .1) in
-    search needs
+handed-requires : tie.Need-handed-requires
+handed-requires c κs = search needs
 
 cast-read-link : tie.Need-cast-read-link
 cast-read-link c =
-    let s = c .before .before .before .before .before .before .before .before .before .args .s .now in
-    let n = number-known s _ _ _ _ (bytes-known s (c .before .before .before .before .before .before .before .before .shared-slice-known .given)) (sym (c .before .before .before .before .before .before .before .numbered .ensures) ∙ c .before .before .before .before .before .found .given .1) in
-    search needs
-
-cast-read-link-2 : tie.Need-cast-read-link-2
-cast-read-link-2 c = search needs
+    let args = c .before .before .before .before .before .before .before .args in
+    let shared-slice-known = c .before .before .before .before .before .before .shared-slice-known in
+    let numbered-body = c .before .before .before .before .before .numbered-body in
+    let enum-told = c .before .before .enum-told in
+    let s = args .s .now in
+    let k = body-known s (args .number) _ (bytes-known s (shared-slice-known .given)) (numbered-body .ensures) (enum-told .given .1) in
+    omega (arith, k .short)
 
 read-link-requires : tie.Need-read-link-requires
 read-link-requires c κs = search needs
 
-enum-known-found-2 : tie.Need-enum-known-found-2
-enum-known-found-2 c = search needs
+enum-known-verdict : tie.Need-enum-known-verdict
+enum-known-verdict c = search needs
 
-no-link-requires : tie.Need-no-link-requires
-no-link-requires c κs = search needs
+refused-requires : tie.Need-refused-requires
+refused-requires c κs = search needs
 
 returns : tie.Need-returns
 returns c =
-    let s = c .before .before .before .before .before .before .before .before .before .before .before .args .s .now in
-    let n = number-known s _ _ _ _ (bytes-known s (c .before .before .before .before .before .before .before .before .before .before .shared-slice-known .given)) (sym (c .before .before .before .before .before .before .before .before .before .numbered .ensures) ∙ c .before .before .before .before .before .before .before .found .given .1) in
-    rw (c .before .before .before .of-bytes .ensures) at (c .read-link .ensures) ∙ number-link s _ _ _ n
+    let args = c .before .before .before .before .before .before .before .before .args in
+    let shared-slice-known = c .before .before .before .before .before .before .before .shared-slice-known in
+    let numbered-body = c .before .before .before .before .before .before .numbered-body in
+    let enum-told = c .before .before .before .enum-told in
+    let handed = c .before .before .handed in
+    let s = args .s .now in
+    let k = body-known s (args .number) _ (bytes-known s (shared-slice-known .given)) (numbered-body .ensures) (enum-told .given .1) in
+    rw (handed .ensures .0) at (c .read-link .ensures) ∙ number-link s (args .number) _ k
 
 returns-2 : tie.Need-returns-2
-unfolding numberedLink
-returns-2 c = answer-refused _ _ _ _ (c .no-link .ensures .0) (c .no-link .ensures .1) (located-stop _ _ _ _ _ (sym (c .before .before .before .before .numbered .ensures) ∙ c .before .before .found2 .given .1))
+returns-2 c =
+    let args = c .before .before .before .before .before .before .before .args in
+    let numbered-body = c .before .before .before .before .before .numbered-body in
+    let verdict = c .before .before .verdict in
+    let s = args .s .now in
+    let v = sym (body-verdict s (args .number)) ∙ sym (ap (λ (m : NumberedBody). m .verdict) (numbered-body .ensures)) ∙ verdict .given .1 in
+    c .refused .ensures ∙ link-stopped s (args .number) _ v
 
 pub read-link-spec : {M : Type 1} → statement M
 read-link-spec =
     tie.close
     (tie.spec
-    numbered-requires
-    enum-known-found
-    add-start
-    shared-slice-read-of-bytes
-    add-of-bytes
-    shared-slice-read-of-bytes-2
-    of-bytes-requires
-    sub-read-link
-    part-read-link-start
-    part-read-link-end
+    numbered-body-requires
+    enum-told
+    handed-requires
     cast-read-link
-    cast-read-link-2
     read-link-requires
-    enum-known-found-2
-    no-link-requires
+    enum-known-verdict
+    refused-requires
     returns
     returns-2)

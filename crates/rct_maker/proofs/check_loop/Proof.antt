@@ -18,7 +18,9 @@ first-of-requires c κs = search needs
 
 returns : tie.Need-returns
 unfolding checkLoop
-returns c = rw (c .first-of .ensures, c .before .check2 .ensures, c .before .before .check .ensures)
+returns c =
+    let check = c .before .before .check in
+    rw (c .first-of .ensures, c .before .check2 .ensures, check .ensures)
 
 pub check-loop-spec : {M : Type 1} → statement M
 check-loop-spec =

@@ -13,15 +13,19 @@ check-range-requires c κs = search needs
 first-of-requires : tie.Need-first-of-requires
 first-of-requires c κs = search needs
 
-check-header-requires : tie.Need-check-header-requires
-check-header-requires c κs = search needs
+check-requires : tie.Need-check-requires
+check-requires c κs = search needs
 
 first-of-requires-2 : tie.Need-first-of-requires-2
 first-of-requires-2 c κs = search needs
 
 returns : tie.Need-returns
 unfolding checkMaking
-returns c = rw (c .first-of2 .ensures, c .before .check-header .ensures, c .before .before .first-of .ensures, c .before .before .before .check-range .ensures, c .before .before .before .before .check-loop .ensures)
+returns c =
+    let first-of = c .before .before .before .first-of in
+    let check-range = c .before .before .before .before .check-range in
+    let check-loop = c .before .before .before .before .before .check-loop in
+    rw (c .first-of2 .ensures, c .before .check .ensures, first-of .ensures, check-range .ensures, check-loop .ensures)
 
 pub check-making-spec : {M : Type 1} → statement M
 check-making-spec =
@@ -30,6 +34,6 @@ check-making-spec =
     check-loop-requires
     check-range-requires
     first-of-requires
-    check-header-requires
+    check-requires
     first-of-requires-2
     returns)

@@ -48,9 +48,12 @@ same-length c = search needs
 
 returns : tie.Need-returns
 returns c =
+    let to-bytes = c .before .before .before .before .before .before .before .before .before .before .to-bytes in
+    let put-at = c .before .before .before .before .before .before .before .put-at in
+    let put-at2 = c .before .before .put-at2 in
     let args = c .before .before .before .before .before .before .before .before .before .before .before .before .before .before .before .args in
     let pre = c .before .before .before .before .before .before .before .before .before .before .before .before .before .before .before .pre in
-    loop-put _ _ _ _ (args .text .now) _ (args .range) (pre .0) (pre .1) (c .before .before .before .before .before .before .before .before .before .before .to-bytes .ensures) (c .before .before .before .before .before .before .before .put-at .ensures .1) (c .before .before .put-at2 .ensures .1)
+    loop-put _ _ _ _ (args .text .now) _ (args .range) (pre .0) (pre .1) (to-bytes .ensures) (put-at .ensures .1) (put-at2 .ensures .1)
 
 pub put-loop-spec : {M : Type 1} → statement M
 put-loop-spec =

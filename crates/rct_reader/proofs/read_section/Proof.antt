@@ -1,52 +1,18 @@
 -- `read_section` meets its contract. Assumes nothing.
 use mathlib.Core.Path.{_≡_, sym, _∙_}
-use native.Mathlib.Omega.{arith}
-use Rattle.wire.proofs.Parts.{bytes-known}
-use Rattle.wire.specs.Lengths.{longest}
-use Rattle.rct.proofs.Accepted.{accepted}
-use Rattle.rct_walker.specs.Sections.{sectionRead}
-use Rattle.rct_walker.proofs.Entries.{located-at, located-stop}
+use Rattle.rct_walker.proofs.Loops.{loop-had}
 use borrow.Author.Needs.{needs}
 use Rattle.rct_reader.proofs.read_section.Statement.{statement}
 use Rattle.rct_reader.proofs.read_section.Tie as tie
 
-find-requires : tie.Need-find-requires
-find-requires c κs = search needs
+plain-loop-requires : tie.Need-plain-loop-requires
+plain-loop-requires c κs = search needs
 
-enum-known-read : tie.Need-enum-known-read
-enum-known-read c = search needs
-
-section-at-requires : tie.Need-section-at-requires
-section-at-requires c κs =
-    let s = c .before .before .before .before .before .args .s .now in
-    let g = located-at _ _ _ _ _ _ _ (sym (c .before .before .before .find .ensures) ∙ c .before .read .given .1) in
-    let a = accepted longest s (bytes-known s (c .before .before .before .before .shared-slice-known .given)) (g .fine) in
-    let q = g .loop-at in
-    (omega arith, (sym q, (omega arith, omega arith)))
-
-enum-known-read-2 : tie.Need-enum-known-read-2
-enum-known-read-2 c = search needs
-
-no-section-requires : tie.Need-no-section-requires
-no-section-requires c κs = search needs
+section-of-requires : tie.Need-section-of-requires
+section-of-requires c κs = λ t n p e. let g = loop-had _ _ _ _ _ (sym (c .plain-loop .ensures) ∙ e) in ((sym (g .total), (sym (g .count), sym (g .place))), g .fine)
 
 returns : tie.Need-returns
-returns c =
-    let g = located-at _ _ _ _ _ _ _ (sym (c .before .before .before .before .find .ensures) ∙ c .before .before .read .given .1) in
-    rw (g .fine) (c .section-at .ensures)
-
-returns-2 : tie.Need-returns-2
-unfolding sectionRead
-returns-2 c = rw (located-stop _ _ _ _ _ (sym (c .before .before .before .before .find .ensures) ∙ c .before .before .read2 .given .1)) (c .no-section .ensures)
+returns c = c .section-of .ensures _ (c .before .plain-loop .ensures)
 
 pub read-section-spec : {M : Type 1} → statement M
-read-section-spec =
-    tie.close
-    (tie.spec
-    find-requires
-    enum-known-read
-    section-at-requires
-    enum-known-read-2
-    no-section-requires
-    returns
-    returns-2)
+read-section-spec = tie.close (tie.spec plain-loop-requires section-of-requires returns)

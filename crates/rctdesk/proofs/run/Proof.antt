@@ -6,26 +6,11 @@ use Rattle.rctdesk.proofs.run.Statement.{statement}
 use Rattle.rctdesk.proofs.run.Tie as tie
 
 abbrev Inv-loop : tie.InvT-loop
-Inv-loop block₀ line₀ buf₀ text₀ out₀ turn₀ turns₀ block line buf text out turn turns = (length block ≡ length block₀) × (length line ≡ length line₀) × (length buf ≡ length buf₀) × (length text ≡ length text₀) × (length out ≡ length out₀)
+Inv-loop block₀ line₀ buf₀ text₀ desk₀ unread₀ turns₀ block line buf text desk unread turns = (length block ≡ length block₀) × (length line ≡ length line₀) × (length buf ≡ length buf₀) × (length text ≡ length text₀)
 
 abbrev μ-loop : tie.MeasureT-loop
-μ-loop block₀ line₀ buf₀ text₀ out₀ turn₀ turns₀ block line buf text out turn turns = turns
+μ-loop block₀ line₀ buf₀ text₀ desk₀ unread₀ turns₀ block line buf text desk unread turns = turns
 
 pub run-spec : {M : Type 1} → statement M
 run-spec =
-    tie.close
-    (tie.spec
-    Inv-loop
-    μ-loop
-    (λ c. search needs)
-    (λ c κs. search needs)
-    (λ c. search needs)
-    (λ c. search needs)
-    (λ c. search needs)
-    (λ c κs. search needs)
-    (λ c. search needs)
-    (λ c. search needs)
-    (λ c. search needs)
-    (λ c. search needs)
-    (λ c. search needs)
-    (λ c. search needs))
+    tie.close (tie.spec Inv-loop μ-loop (search needs) (search needs) (search needs) (search needs) (search needs) (search needs) (search needs) (search needs) (search needs) (search needs) (search needs) (search needs) (search needs) (search needs) (search needs) (search needs) (search needs) (search needs) (search needs))

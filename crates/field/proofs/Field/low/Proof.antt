@@ -17,7 +17,9 @@ rem-result : tie.Need-rem-result
 rem-result c = search needs
 
 cast-result : tie.Need-cast-result
-cast-result c = omega (arith, mod-le (c .before .before .before .args .number) (c .before .before .before .args .self .widest + 1))
+cast-result c =
+    let args = c .before .before .before .args in
+    omega (arith, mod-le (args .number) (args .self .widest + 1))
 
 returns-2 : tie.Need-returns-2
 returns-2 c = search needs

@@ -25,7 +25,9 @@ filler-requires : tie.Need-filler-requires Inv-loop μ-loop
 filler-requires c κs = search needs
 
 slice-write-b : tie.Need-slice-write-b Inv-loop μ-loop
-slice-write-b c = omega (arith, simp length-sets at (ap length (c .before .before .loop .inv .0)))
+slice-write-b c =
+    let loop = c .before .before .loop in
+    omega (arith, simp length-sets at (ap length (loop .inv .0)))
 
 add-i : tie.Need-add-i Inv-loop μ-loop
 add-i c = search needs

@@ -4,7 +4,7 @@ use mathlib.Core.Path.{sym}
 use native.Mathlib.Omega.{arith}
 use lib.ListN.{take, drop, replicate, length-replicate}
 use lib.Seq.{length-take-le}
-use Rattle.rct_editor.specs.Editing.{largest}
+use Rattle.rct_editor.specs.Splicing.{largest}
 use Rattle.rct_editor.proofs.Stores.{length-putAt, moved}
 use borrow.Author.Needs.{needs}
 use Rattle.rct_editor.proofs.splicing.move_tail.Statement.{statement}
@@ -30,13 +30,15 @@ put-at-requires c κs = search needs
 
 array-share-prefix-copy : tie.Need-array-share-prefix-copy
 array-share-prefix-copy c =
+    let put-at = c .before .before .put-at in
     let args = c .before .before .before .before .before .before .before .args in
-    omega (arith, length-putAt (replicate largest 0) _ (take (args .from + args .n - args .from) (drop (args .from) (args .b .now))) 0 (c .before .before .put-at .ensures .1), length-replicate {A = ℕ} largest 0)
+    omega (arith, length-putAt (replicate largest 0) _ (take (args .from + args .n - args .from) (drop (args .from) (args .b .now))) 0 (put-at .ensures .1), length-replicate {A = ℕ} largest 0)
 
 slice-aggregate-put-at-2 : tie.Need-slice-aggregate-put-at-2
 slice-aggregate-put-at-2 c =
+    let put-at = c .before .before .before .put-at in
     let args = c .before .before .before .before .before .before .before .before .args in
-    sym (length-take-le _ _ (omega (arith, length-putAt (replicate largest 0) _ (take (args .from + args .n - args .from) (drop (args .from) (args .b .now))) 0 (c .before .before .before .put-at .ensures .1), length-replicate {A = ℕ} largest 0)))
+    sym (length-take-le _ _ (omega (arith, length-putAt (replicate largest 0) _ (take (args .from + args .n - args .from) (drop (args .from) (args .b .now))) 0 (put-at .ensures .1), length-replicate {A = ℕ} largest 0)))
 
 put-at-requires-2 : tie.Need-put-at-requires-2
 put-at-requires-2 c κs = search needs
@@ -46,9 +48,11 @@ same-length c = search needs
 
 returns : tie.Need-returns
 returns c =
+    let put-at = c .before .before .before .before .before .before .put-at in
+    let put-at2 = c .before .before .put-at2 in
     let args = c .before .before .before .before .before .before .before .before .before .before .before .args in
     let pre = c .before .before .before .before .before .before .before .before .before .before .before .pre in
-    moved (args .b .now) (replicate largest 0) _ _ (args .from) (args .to) (args .n) (pre .1 .0) (pre .1 .1) (c .before .before .before .before .before .before .put-at .ensures .1) (c .before .before .put-at2 .ensures .1) (omega (arith, length-replicate {A = ℕ} largest 0))
+    moved (args .b .now) (replicate largest 0) _ _ (args .from) (args .to) (args .n) (pre .1 .0) (pre .1 .1) (put-at .ensures .1) (put-at2 .ensures .1) (omega (arith, length-replicate {A = ℕ} largest 0))
 
 pub move-tail-spec : {M : Type 1} → statement M
 move-tail-spec =

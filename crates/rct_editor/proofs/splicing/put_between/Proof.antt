@@ -1,11 +1,14 @@
--- `put_between` meets its contract. Assumes nothing.
+-- `put_between` meets its contract: each exit answers its row, and behind all of them the stores are those of the definition. Assumes nothing.
 use Prim.Native.Nat.{_+_, _-_}
-use mathlib.Core.Path.{sym, _∙_}
+use mathlib.Core.Path.{_≡_, sym, ap, _∙_}
 use native.Mathlib.Omega.{arith}
+use lib.ListN.{length}
+use lib.Seq.{length-sets}
+use Rattle.frame.specs.Syntax.{uncounted}
 use Rattle.rct_edit.proofs.Outcomes.{room-passed}
 use Rattle.rct_editor.proofs.Outcomes.{between-own, between-room, between-done, fitting}
-use Rattle.rct_editor.proofs.Sizes.{link-few}
-use Rattle.rct_editor.proofs.Stores.{finished-put}
+use Rattle.rct_editor.proofs.Sizes.{own-refused, owned, total-within, still-within, tail-moves}
+use Rattle.rct_editor.proofs.Stores.{spliced-put, finished-put}
 use borrow.Author.Needs.{needs}
 use Rattle.rct_editor.proofs.splicing.put_between.Statement.{statement}
 use Rattle.rct_editor.proofs.splicing.put_between.Tie as tie
@@ -25,19 +28,8 @@ refused-requires c κs = search needs
 returns : tie.Need-returns
 returns c =
     let args = c .before .before .before .before .before .before .args in
-    let v = c .before .enum-told2 .given .1 in between-own (args .b .now) (args .from) (args .to) (args .count) (args .text .now) (args .link) _ _ (sym (c .before .before .before .check-link .ensures) ∙ v) (rw v at (c .refused .ensures))
-
-slice-read-total : tie.Need-slice-read-total
-slice-read-total c = search needs
-
-slice-read-total-2 : tie.Need-slice-read-total-2
-slice-read-total-2 c = search needs
-
-total-requires : tie.Need-total-requires
-total-requires c κs = search needs
-
-link-length-requires : tie.Need-link-length-requires
-link-length-requires c κs = search needs
+    let check-link = c .before .before .before .check-link in
+    between-own (args .b .now) (args .from) (args .to) (args .count) (args .text .now) (args .link) _ _ (own-refused _ _ _ _ (check-link .ensures) (c .before .enum-told2 .given .1)) (rw (c .before .enum-told2 .given .1) at (c .refused .ensures))
 
 sub-section-length : tie.Need-sub-section-length
 sub-section-length c = search needs
@@ -52,7 +44,12 @@ add-section-length : tie.Need-add-section-length
 add-section-length c = search needs
 
 add-section-length-2 : tie.Need-add-section-length-2
-add-section-length-2 c = omega (arith, link-few _ _ (sym (c .before .before .before .before .before .before .check-link .ensures) ∙ c .before .before .before .before .enum-told .given .1), c .link-length .ensures, c .before .total .ensures .1)
+add-section-length-2 c =
+    let args = c .before .before .before .before .before .args in
+    let check-link = c .before .before .check-link in
+    let pre = c .before .before .before .before .before .pre in
+    let o = owned (args .b .now) (args .from) (args .to) (args .text .now) (args .link) (args .total) _ (check-link .ensures) (c .enum-told .given .1) (pre .1 .0) in
+    omega (arith, o .short)
 
 check-room-requires : tie.Need-check-room-requires
 check-room-requires c κs = search needs
@@ -68,30 +65,91 @@ refused-requires-2 c κs = search needs
 
 returns-2 : tie.Need-returns-2
 returns-2 c =
-    let args = c .before .before .before .before .before .before .before .before .before .before .before .before .before .args in
-    let total = c .before .before .before .before .before .total in
-    let link-length = c .before .before .before .before .link-length in
-    let v = c .before .enum-told4 .given .1 in between-room (args .b .now) (args .from) (args .to) (args .count) (args .text .now) (args .link) (sym (c .before .before .before .before .before .before .before .before .before .before .check-link .ensures) ∙ c .before .before .before .before .before .before .before .before .enum-told .given .1) _ (total .result - 3 - (args .to - args .from) + 2 + link-length .result) (link-length .ensures) (omega (arith, total .ensures .0, link-length .ensures)) _ _ (sym (c .before .before .before .check-room .ensures) ∙ v) (rw v at (c .refused2 .ensures))
+    let args = c .before .before .before .before .before .before .before .before .before .args in
+    let check-link = c .before .before .before .before .before .before .check-link in
+    let enum-told = c .before .before .before .before .enum-told in
+    let pre = c .before .before .before .before .before .before .before .before .before .pre in
+    let check-room = c .before .before .before .check-room in
+    let o = owned (args .b .now) (args .from) (args .to) (args .text .now) (args .link) (args .total) _ (check-link .ensures) (enum-told .given .1) (pre .1 .0) in
+    between-room (args .b .now) (args .from) (args .to) (args .count) (args .text .now) (args .link) (o .fine) _ (o .is) _ _ (sym (check-room .ensures) ∙ c .before .enum-told4 .given .1) (rw (c .before .enum-told4 .given .1) at (c .refused2 .ensures))
 
-splice-requires : tie.Need-splice-requires
-splice-requires c κs =
-    let pre = c .before .before .before .before .before .before .before .before .before .before .before .before .before .pre in
-    let args = c .before .before .before .before .before .before .before .before .before .before .before .before .before .args in
-    let total = c .before .before .before .before .before .total in
-    let link-length = c .before .before .before .before .link-length in
-    (pre .0, (pre .1, fitting (args .b .now) (args .from) (args .to) (args .count) (args .text .now) (args .link) (sym (c .before .before .before .before .before .before .before .before .before .before .check-link .ensures) ∙ c .before .before .before .before .before .before .before .before .enum-told .given .1) _ (total .result - 3 - (args .to - args .from) + 2 + link-length .result) (link-length .ensures) (omega (arith, total .ensures .0, link-length .ensures)) (sym (c .before .before .before .check-room .ensures) ∙ c .before .enum-told3 .given .1)))
+add-behind : tie.Need-add-behind
+add-behind c = search needs
 
-add-payload-end : tie.Need-add-payload-end
-add-payload-end c = omega (arith, room-passed _ _ _ (sym (c .before .before .before .before .before .before .before .check-room .ensures) ∙ c .before .before .before .before .before .enum-told3 .given .1) .fit)
+add-behind-2 : tie.Need-add-behind-2
+add-behind-2 c =
+    let args = c .before .before .before .before .before .before .before .before .args in
+    let check-link = c .before .before .before .before .before .check-link in
+    let enum-told = c .before .before .before .enum-told in
+    let pre = c .before .before .before .before .before .before .before .before .pre in
+    let o = owned (args .b .now) (args .from) (args .to) (args .text .now) (args .link) (args .total) _ (check-link .ensures) (enum-told .given .1) (pre .1 .0) in
+    omega (arith, o .short)
 
 payload-end-requires : tie.Need-payload-end-requires
 payload-end-requires c κs = search needs
+
+sub-move-tail : tie.Need-sub-move-tail
+sub-move-tail c = search needs
+
+move-tail-requires : tie.Need-move-tail-requires
+move-tail-requires c κs =
+    let args = c .before .before .before .before .before .before .before .before .before .before .args in
+    let check-link = c .before .before .before .before .before .before .before .check-link in
+    let enum-told = c .before .before .before .before .before .enum-told in
+    let pre = c .before .before .before .before .before .before .before .before .before .before .pre in
+    let check-room = c .before .before .before .before .check-room in
+    let enum-told3 = c .before .before .enum-told3 in
+    let o = owned (args .b .now) (args .from) (args .to) (args .text .now) (args .link) (args .total) _ (check-link .ensures) (enum-told .given .1) (pre .1 .0) in
+    let f = fitting (args .b .now) (args .from) (args .to) (args .count) (args .text .now) (args .link) (o .fine) _ (o .is) (sym (check-room .ensures) ∙ enum-told3 .given .1) in
+    tail-moves (args .b .now) (args .from) (args .to) (args .text .now) (args .link) (args .total) _ _ _ (pre .0) (o .size) f (pre .1 .0) (c .payload-end .ensures)
+
+put-entry-requires : tie.Need-put-entry-requires
+put-entry-requires c κs =
+    let args = c .before .before .before .before .before .before .before .before .before .before .before .before .before .before .args in
+    let check-link = c .before .before .before .before .before .before .before .before .before .before .before .check-link in
+    let enum-told = c .before .before .before .before .before .before .before .before .before .enum-told in
+    let pre = c .before .before .before .before .before .before .before .before .before .before .before .before .before .before .pre in
+    let check-room = c .before .before .before .before .before .before .before .before .check-room in
+    let enum-told3 = c .before .before .before .before .before .before .enum-told3 in
+    let move-tail = c .before .before .before .move-tail in
+    let o = owned (args .b .now) (args .from) (args .to) (args .text .now) (args .link) (args .total) _ (check-link .ensures) (enum-told .given .1) (pre .1 .0) in
+    let f = fitting (args .b .now) (args .from) (args .to) (args .count) (args .text .now) (args .link) (o .fine) _ (o .is) (sym (check-room .ensures) ∙ enum-told3 .given .1) in
+    (o .fine, (o .size, (omega (arith, o .size, f .is, f .fit), omega (arith, f .enough, simp length-sets at (ap length (move-tail .ensures))))))
+
+put-numbers-requires : tie.Need-put-numbers-requires
+put-numbers-requires c κs =
+    let args = c .before .before .before .before .before .before .before .before .before .before .before .before .before .before .before .before .before .before .args in
+    let check-link = c .before .before .before .before .before .before .before .before .before .before .before .before .before .before .before .check-link in
+    let enum-told = c .before .before .before .before .before .before .before .before .before .before .before .before .before .enum-told in
+    let pre = c .before .before .before .before .before .before .before .before .before .before .before .before .before .before .before .before .before .before .pre in
+    let check-room = c .before .before .before .before .before .before .before .before .before .before .before .before .check-room in
+    let enum-told3 = c .before .before .before .before .before .before .before .before .before .before .enum-told3 in
+    let put-entry = c .before .before .before .put-entry in
+    let move-tail = c .before .before .before .before .before .before .before .move-tail in
+    let o = owned (args .b .now) (args .from) (args .to) (args .text .now) (args .link) (args .total) _ (check-link .ensures) (enum-told .given .1) (pre .1 .0) in
+    let f = fitting (args .b .now) (args .from) (args .to) (args .count) (args .text .now) (args .link) (o .fine) _ (o .is) (sym (check-room .ensures) ∙ enum-told3 .given .1) in
+    (omega (arith, simp length-sets at (ap length (put-entry .ensures)), simp length-sets at (ap length (move-tail .ensures))), (omega (arith, f .fit), pre .1 .1))
+
+add-payload-end : tie.Need-add-payload-end
+add-payload-end c =
+    let check-room = c .before .before .before .before .before .before .before .before .before .before .before .before .before .before .before .before .check-room in
+    let enum-told3 = c .before .before .before .before .before .before .before .before .before .before .before .before .before .before .enum-told3 in
+    omega (arith, room-passed _ _ (sym (check-room .ensures) ∙ enum-told3 .given .1) .fit)
+
+payload-end-requires-2 : tie.Need-payload-end-requires-2
+payload-end-requires-2 c κs = search needs
 
 seal-requires : tie.Need-seal-requires
 seal-requires c κs = search needs
 
 fill-requires : tie.Need-fill-requires
-fill-requires c κs = search needs
+fill-requires c κs =
+    let pre = c .before .before .before .before .before .before .before .before .before .before .before .before .before .before .before .before .before .before .before .before .before .before .before .before .before .before .before .pre in
+    let b = c .before .before .before .before .before .before .before .before .before .before .before .before .before .before .before .b in
+    let b2 = c .before .before .before .before .before .before .before .before .before .before .before .b2 in
+    let b3 = c .before .before .before .before .before .before .before .b3 in
+    let b4 = c .before .before .b4 in
+    still-within _ _ _ _ _ _ (total-within _ _ _ _ (pre .0) (pre .1 .0)) (b .given) (b2 .given) (b3 .given) (b4 .given)
 
 accepted-requires : tie.Need-accepted-requires
 accepted-requires c κs = search needs
@@ -101,16 +159,26 @@ same-length c = search needs
 
 returns-3 : tie.Need-returns-3
 returns-3 c =
-    let total = c .before .before .before .before .before .before .before .before .before .before .before .before .before .before .before .before .before .before .total in
-    let args = c .before .before .before .before .before .before .before .before .before .before .before .before .before .before .before .before .before .before .before .before .before .before .before .before .before .before .args in
-    let link-length = c .before .before .before .before .before .before .before .before .before .before .before .before .before .before .before .before .before .link-length in
-    let payload-end = c .before .before .before .before .before .before .before .before .payload-end in
+    let args = c .before .before .before .before .before .before .before .before .before .before .before .before .before .before .before .before .before .before .before .before .before .before .before .before .before .before .before .before .before .before .before .args in
+    let check-link = c .before .before .before .before .before .before .before .before .before .before .before .before .before .before .before .before .before .before .before .before .before .before .before .before .before .before .before .before .check-link in
+    let enum-told = c .before .before .before .before .before .before .before .before .before .before .before .before .before .before .before .before .before .before .before .before .before .before .before .before .before .before .enum-told in
+    let pre = c .before .before .before .before .before .before .before .before .before .before .before .before .before .before .before .before .before .before .before .before .before .before .before .before .before .before .before .before .before .before .before .pre in
+    let check-room = c .before .before .before .before .before .before .before .before .before .before .before .before .before .before .before .before .before .before .before .before .before .before .before .before .before .check-room in
+    let enum-told3 = c .before .before .before .before .before .before .before .before .before .before .before .before .before .before .before .before .before .before .before .before .before .before .before .enum-told3 in
+    let payload-end = c .before .before .before .before .before .before .before .before .before .before .before .before .before .before .before .before .before .before .before .before .before .payload-end in
+    let move-tail = c .before .before .before .before .before .before .before .before .before .before .before .before .before .before .before .before .before .before .before .before .move-tail in
+    let put-entry = c .before .before .before .before .before .before .before .before .before .before .before .before .before .before .before .before .put-entry in
+    let put-numbers = c .before .before .before .before .before .before .before .before .before .before .before .before .put-numbers in
+    let payload-end2 = c .before .before .before .before .before .before .before .before .payload-end2 in
     let seal = c .before .before .before .before .before .before .before .seal in
-    let len = total .result - 3 - (args .to - args .from) + 2 + link-length .result in
-    let fine = sym (c .before .before .before .before .before .before .before .before .before .before .before .before .before .before .before .before .before .before .before .before .before .before .before .check-link .ensures) ∙ c .before .before .before .before .before .before .before .before .before .before .before .before .before .before .before .before .before .before .before .before .before .enum-told .given .1 in
-    let room = sym (c .before .before .before .before .before .before .before .before .before .before .before .before .before .before .before .before .check-room .ensures) ∙ c .before .before .before .before .before .before .before .before .before .before .before .before .before .before .enum-told3 .given .1 in
-    let put = finished-put (args .b .now) _ _ _ (args .from) (args .to) (args .count) (args .text .now) (args .link) len (payload-end .result) (seal .result) (total .result) (room-passed _ _ _ room .enough) (c .before .before .before .before .before .before .before .before .before .before .before .before .splice .ensures) (seal .ensures .1) (c .before .before .before .fill .ensures) (omega (arith, total .ensures .0, link-length .ensures)) (payload-end .ensures) (seal .ensures .0) (total .ensures .0) in
-    between-done (args .b .now) (args .from) (args .to) (args .count) (args .text .now) (args .link) fine _ len (link-length .ensures) (omega (arith, total .ensures .0, link-length .ensures)) _ _ _ room (put .1) (put .0) (c .accepted .ensures)
+    let fill = c .before .before .before .fill in
+    let xs = args .b .now in
+    let o = owned xs (args .from) (args .to) (args .text .now) (args .link) (args .total) _ (check-link .ensures) (enum-told .given .1) (pre .1 .0) in
+    let room = sym (check-room .ensures) ∙ enum-told3 .given .1 in
+    let len = args .total - uncounted - (args .to - args .from) + 2 + check-link .result .length in
+    let spliced = spliced-put xs _ _ _ (args .from) (args .to) (args .count) (args .text .now) (args .link) (args .from + 2 + check-link .result .length) (payload-end .result - args .to) len (o .fine) (move-tail .ensures) (put-entry .ensures) (put-numbers .ensures) (omega (arith, o .size)) (omega (arith, payload-end .ensures, pre .1 .0)) in
+    let done = finished-put xs _ _ _ (args .from) (args .to) (args .count) (args .text .now) (args .link) len (payload-end2 .result) (seal .result) (args .total) (room-passed _ _ room .enough) spliced (seal .ensures .1) (fill .ensures) (o .is) (payload-end2 .ensures) (seal .ensures .0) (pre .1 .0) in
+    between-done xs (args .from) (args .to) (args .count) (args .text .now) (args .link) (o .fine) _ (o .is) _ _ _ room (done .1) (done .0) (c .accepted .ensures)
 
 pub put-between-spec : {M : Type 1} → statement M
 put-between-spec =
@@ -121,10 +189,6 @@ put-between-spec =
     enum-told-2
     refused-requires
     returns
-    slice-read-total
-    slice-read-total-2
-    total-requires
-    link-length-requires
     sub-section-length
     sub-section-length-2
     sub-section-length-3
@@ -135,9 +199,15 @@ put-between-spec =
     enum-told-4
     refused-requires-2
     returns-2
-    splice-requires
-    add-payload-end
+    add-behind
+    add-behind-2
     payload-end-requires
+    sub-move-tail
+    move-tail-requires
+    put-entry-requires
+    put-numbers-requires
+    add-payload-end
+    payload-end-requires-2
     seal-requires
     fill-requires
     accepted-requires

@@ -40,7 +40,10 @@ same-length : tie.Need-same-length
 same-length c = search needs
 
 returns : tie.Need-returns
-returns c = numbers-put _ _ _ _ (omega (arith, c .before .before .before .before .slice-known .given 1, c .before .before .before .before .slice-known .given 2)) (c .before .before .before .before .before .pre .1 .0) (rw (c .before .of-bytes .ensures) at (c .to-bytes .ensures))
+returns c =
+    let slice-known = c .before .before .before .before .slice-known in
+    let pre = c .before .before .before .before .before .pre in
+    numbers-put _ _ _ _ (omega (arith, slice-known .given 1, slice-known .given 2)) (pre .1 .0) (rw (c .before .of-bytes .ensures) at (c .to-bytes .ensures))
 
 pub put-numbers-spec : {M : Type 1} → statement M
 put-numbers-spec =

@@ -1,0 +1,43 @@
+// A range: in a call `@START+LENGTH` of the lent text, in an answer its bytes and where they start.
+use console::Short;
+use console::print::put_hex;
+use console::print::put_number;
+use console::print::say;
+use link::Range;
+use script::read::Numbers;
+use script::read::read_short;
+use script::scan::Scan;
+use wire::spans::Span;
+use wire::spans::handed;
+
+pub const RANGE: Short = *b"@#+#____________________";
+
+const START: Short = *b"@_______________________";
+
+pub struct RangeScan {
+    pub scan: Scan,
+    pub range: Range,
+}
+
+pub fn range_of(n: Numbers) -> Range {
+    Range {
+        start: n.0 as u32,
+        length: n.1 as u32,
+    }
+}
+
+pub fn read_range(line: &[u8], s: Scan) -> RangeScan {
+    let read = read_short(line, s, RANGE);
+    let scan = read.scan;
+    let range = range_of(read.numbers);
+    RangeScan { scan, range }
+}
+
+// A range of the bytes `s`.
+pub fn put_range(s: &[u8], range: Range) {
+    let start = range.start as usize;
+    let length = range.length as usize;
+    put_hex(handed(s, Span { start, length }));
+    say(START);
+    put_number(start);
+}

@@ -1,0 +1,27 @@
+-- The lengths of a section of any table (ISO/IEC 13818-1, 2.4.4.10): table_id, bytes 1 to 7 (section_header), the table's own bytes, and
+-- the CRC. Nothing here reads.
+-- Assumes nothing.
+use Prim.Native.Nat.{ℕ, _+_, _-_}
+use Rattle.wire.specs.Lengths.{longest}
+use Rattle.frame.specs.declared.Table.{Table}
+
+-- ---- the numbers that hold for every table
+
+-- the bytes up to the end of section_length, which it does not count, and those of the CRC, which it does
+abbrev pub uncounted : ℕ
+uncounted = 3
+
+abbrev pub crcLength : ℕ
+crcLength = 4
+
+-- the most bytes that stand before a CRC
+abbrev pub longestPayload : ℕ
+longestPayload = uncounted + longest - crcLength
+
+-- the greatest section_length that is written, and that a checked reading takes
+abbrev pub limit : ℕ
+limit = longest
+
+-- the bytes of a table's smallest section
+abbrev pub least : Table → ℕ
+least t = uncounted + t .shortest

@@ -1,0 +1,2 @@
+-- What the stages of the check answer.
+pub mod Stages

@@ -1,0 +1,107 @@
+-- `body_places` meets its contract. Assumes nothing.
+use Rattle.link.proofs.Bounds.{place-within}
+use Rattle.link_reader.proofs.Places.{at-places, refused-places}
+use Rattle.link_reader.proofs.Stages.{came-at, came-refused, uri-known, stop-uri, stop-locator, body-rest}
+use mathlib.Core.Path.{_∙_}
+use borrow.Author.Needs.{needs}
+use Rattle.link_reader.proofs.body_places.Statement.{statement}
+use Rattle.link_reader.proofs.body_places.Tie as tie
+
+past-uri-requires : tie.Need-past-uri-requires
+past-uri-requires c κs = search needs
+
+enum-known-uri : tie.Need-enum-known-uri
+enum-known-uri c = search needs
+
+past-locator-requires : tie.Need-past-locator-requires
+past-locator-requires c κs =
+    let past-uri = c .before .before .before .past-uri in
+    came-at _ _ _ _ (past-uri .ensures) (c .before .uri .given .1)
+
+enum-known-locator : tie.Need-enum-known-locator
+enum-known-locator c = search needs
+
+past-rest-requires : tie.Need-past-rest-requires
+past-rest-requires c κs =
+    let args = c .before .before .before .before .before .before .before .before .before .args in
+    let past-uri = c .before .before .before .before .before .before .before .past-uri in
+    let uri = c .before .before .before .before .before .uri in
+    let past-locator = c .before .before .before .past-locator in
+    let s = args .s .now in
+    let g = came-at _ _ _ _ (past-uri .ensures) (uri .given .1) in
+    let h = came-at _ _ _ _ (past-locator .ensures) (c .before .locator .given .1) in
+    (h .1, rw (h .1) (place-within s (uri-known s (g .0) .1) (h .0)))
+
+enum-known-rest : tie.Need-enum-known-rest
+enum-known-rest c = search needs
+
+returns : tie.Need-returns
+returns c =
+    let args = c .before .before .before .before .before .before .before .before .before .before .before .before .before .args in
+    let past-uri = c .before .before .before .before .before .before .before .before .before .before .before .past-uri in
+    let uri = c .before .before .before .before .before .before .before .before .before .uri in
+    let past-locator = c .before .before .before .before .before .before .before .past-locator in
+    let locator = c .before .before .before .before .before .locator in
+    let past-rest = c .before .before .before .past-rest in
+    let s = args .s .now in
+    let g = came-at _ _ _ _ (past-uri .ensures) (uri .given .1) in
+    let h = came-at _ _ _ _ (past-locator .ensures) (locator .given .1) in
+    let k = came-at _ _ _ _ (past-rest .ensures) (c .before .rest .given .1) in
+    at-places s _ _ _ (record { fine = body-rest s (g .0) (h .0) ∙ k .0; uri = g .1; count = h .1; tail = k .1 })
+
+enum-known-rest-2 : tie.Need-enum-known-rest-2
+enum-known-rest-2 c = search needs
+
+returns-2 : tie.Need-returns-2
+returns-2 c =
+    let args = c .before .before .before .before .before .before .before .before .before .before .before .before .before .args in
+    let past-uri = c .before .before .before .before .before .before .before .before .before .before .before .past-uri in
+    let uri = c .before .before .before .before .before .before .before .before .before .uri in
+    let past-locator = c .before .before .before .before .before .before .before .past-locator in
+    let locator = c .before .before .before .before .before .locator in
+    let past-rest = c .before .before .before .past-rest in
+    let s = args .s .now in
+    let fine = came-at _ _ _ _ (past-uri .ensures) (uri .given .1) .0 in
+    let fine2 = came-at _ _ _ _ (past-locator .ensures) (locator .given .1) .0 in
+    refused-places s _ (body-rest s fine fine2 ∙ came-refused _ _ _ _ (past-rest .ensures) (c .before .rest2 .given .1))
+
+enum-known-locator-2 : tie.Need-enum-known-locator-2
+enum-known-locator-2 c = search needs
+
+returns-3 : tie.Need-returns-3
+returns-3 c =
+    let args = c .before .before .before .before .before .before .before .before .before .args in
+    let past-uri = c .before .before .before .before .before .before .before .past-uri in
+    let uri = c .before .before .before .before .before .uri in
+    let past-locator = c .before .before .before .past-locator in
+    let s = args .s .now in
+    let fine = came-at _ _ _ _ (past-uri .ensures) (uri .given .1) .0 in
+    refused-places s _ (stop-locator s _ fine (came-refused _ _ _ _ (past-locator .ensures) (c .before .locator2 .given .1)))
+
+enum-known-uri-2 : tie.Need-enum-known-uri-2
+enum-known-uri-2 c = search needs
+
+returns-4 : tie.Need-returns-4
+returns-4 c =
+    let args = c .before .before .before .before .before .args in
+    let past-uri = c .before .before .before .past-uri in
+    let s = args .s .now in
+    refused-places s _ (stop-uri s _ (came-refused _ _ _ _ (past-uri .ensures) (c .before .uri2 .given .1)))
+
+pub body-places-spec : {M : Type 1} → statement M
+body-places-spec =
+    tie.close
+    (tie.spec
+    past-uri-requires
+    enum-known-uri
+    past-locator-requires
+    enum-known-locator
+    past-rest-requires
+    enum-known-rest
+    returns
+    enum-known-rest-2
+    returns-2
+    enum-known-locator-2
+    returns-3
+    enum-known-uri-2
+    returns-4)

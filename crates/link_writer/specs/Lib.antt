@@ -1,0 +1,2 @@
+-- What the stages of the writing leave.
+pub mod Stages

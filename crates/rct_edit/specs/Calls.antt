@@ -1,0 +1,21 @@
+-- Making a section with no links, appending a link and replacing link k, of what the calls are handed (document 01, 'Calls'): the outcomes of the records, with the verdict on their own checks.
+-- Assumes nothing.
+use Prim.Native.Nat.{ℕ}
+use mathlib.Core.List.{List}
+use lib.ListN.{length}
+use Rattle.link.specs.Records.{linkOf}
+use Rattle.link.specs.declared.LinkInfo.{LinkInfo}
+use Rattle.link.specs.declared.Range.{Range}
+use Rattle.link_draft.specs.Checks.{checkLink}
+use Rattle.rct.specs.declared.RctHeader.{RctHeader}
+use Rattle.rct_edit.specs.Edit.{bare, Outcome, made, appended, replaced}
+use Rattle.rct_edit.specs.Making.{checkMaking, loopOf}
+
+unfoldable pub making : List ℕ → RctHeader → ℕ → List ℕ → Range → Outcome
+making xs h beside t d = made xs (checkMaking h beside (length t) d) (bare h (loopOf beside t d))
+
+unfoldable pub appending : List ℕ → List ℕ → LinkInfo → Outcome
+appending xs t i = appended xs (checkLink t i) (linkOf t i)
+
+unfoldable pub replacing : List ℕ → ℕ → List ℕ → LinkInfo → Outcome
+replacing xs k t i = replaced xs k (checkLink t i) (linkOf t i)

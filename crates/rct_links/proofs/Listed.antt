@@ -1,0 +1,48 @@
+-- Which numbers link by number and item by number can answer at all: 1 to 19 and 21.
+-- Assumes nothing.
+use Prim.Native.Nat.{ℕ}
+use mathlib.Core.Path.{_≡_, refl}
+use mathlib.Core.Bool.{true}
+use mathlib.Core.List.{List, [], _∷_, _++_}
+use Rattle.wire.specs.Refusals.{noSuchNumber}
+use Rattle.wire.specs.Verdict.{_▷_}
+use Rattle.wire.specs.declared.verdict.Refusal.{Refusal}
+use Rattle.wire.specs.declared.verdict.Verdict.{Verdict}
+use Rattle.wire.specs.declared.verdict.Verdict.the-variants.{Fine, Refused}
+use Rattle.wire.proofs.Among.{listed, Among, among-then, among-more}
+use Rattle.link.specs.Answers.{linkAnswer, itemRow, itemIn}
+use Rattle.link.specs.declared.LinkInfo.{LinkInfo}
+use Rattle.link.specs.declared.reading.ItemRead.the-variants as item
+use Rattle.link.proofs.Listed as body
+use Rattle.rct.proofs.Listed.{plainReading, plain-listed, number-listed}
+use Rattle.rct_links.specs.Links.{linkRows, bodyPlace, bodyOf, bodyAnswer, numberedBody, numberedLink, numberedItem}
+
+abbrev pub numberReading : List ℕ
+numberReading = plainReading ++ noSuchNumber ∷ []
+
+pub rows-listed : (xs : List ℕ) (k : ℕ) → Among numberReading (linkRows xs k)
+unfolding linkRows
+rows-listed xs k =
+    among-then numberReading _ _ (among-more plainReading numberReading _ refl (plain-listed xs)) (among-more (noSuchNumber ∷ []) numberReading _ refl (number-listed xs k))
+
+pub body-listed : (xs : List ℕ) (k : ℕ) → Among numberReading (numberedBody xs k .verdict)
+unfolding numberedBody bodyAnswer
+body-listed xs k = by (linkRows xs k) _ _ _ (rows-listed xs k)
+  where
+    by : (v : Verdict) (r p n : ℕ) → Among numberReading v → Among numberReading (bodyAnswer v r p n .verdict)
+    by Fine r p n a = a
+    by (Refused q) r p n a = a
+
+pub link-listed : (xs : List ℕ) (k : ℕ) → Among numberReading (numberedLink xs k .verdict)
+unfolding numberedLink linkAnswer
+link-listed xs k = by (linkRows xs k) _ (rows-listed xs k)
+  where
+    by : (v : Verdict) (i : LinkInfo) → Among numberReading v → Among numberReading (linkAnswer v i .verdict)
+    by Fine i a = a
+    by (Refused q) i a = a
+
+pub item-listed : (xs : List ℕ) (k i : ℕ) (r : Refusal) → numberedItem xs k i ≡ item.Refused r → listed (r .number) numberReading ≡ true
+unfolding numberedItem
+item-listed xs k i =
+    body.item-answer-listed numberReading (linkRows xs k ▷ itemRow (bodyOf xs k) i) (itemIn (bodyPlace xs k) (bodyOf xs k) i)
+    (among-then numberReading _ _ (rows-listed xs k) (among-more (noSuchNumber ∷ []) numberReading _ refl (body.number-listed (bodyOf xs k) i)))

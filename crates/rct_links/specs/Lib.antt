@@ -1,0 +1,2 @@
+-- What link by number and item by number answer.
+pub mod Links

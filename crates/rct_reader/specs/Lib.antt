@@ -1,0 +1,2 @@
+-- What a reading of the whole related content section answers.
+pub mod Sections

@@ -1,0 +1,244 @@
+-- What the stages of the walk answer, case by case, over plain lists: the code's returns cite these.
+-- Assumes nothing.
+use mathlib.Core.Path.{_≡_, refl, sym, ap, _∙_}
+use Prim.Native.Nat.{ℕ, zero, suc, _+_, _-_, _≤_, _<_, min}
+use native.Mathlib.Numerals.{add-one}
+use native.Mathlib.Omega.{arith}
+use mathlib.Core.List.{List}
+use lib.ListN.{take, drop}
+use borrow.Author.Tests.{le-leb, lt-leb}
+use Rattle.wire.specs.Lists.{Bytes}
+use Rattle.wire.specs.Lengths.{longest, lengthAt, blockEnd}
+use Rattle.wire.specs.Verdict.{reached, _▷_}
+use Rattle.wire.specs.declared.verdict.Refusal.{Refusal}
+use Rattle.wire.specs.declared.verdict.Verdict.{Verdict}
+use Rattle.wire.specs.declared.verdict.Verdict.the-variants.{Fine, Refused}
+use Rattle.wire.specs.declared.verdict.Reached.the-variants as reach
+use Rattle.wire.proofs.Blocks.{block-passed, length-short}
+use Rattle.wire.proofs.Verdicts.{then-fine, go-on, refused-then, then-assoc, reached-at}
+use Rattle.link.specs.Reading.{bodyVerdict}
+use Rattle.frame.specs.Reading.{payloadEnd, opened, checkedDemands, crcRow}
+use Rattle.frame.specs.declared.Demands.{Demands}
+use Rattle.frame.proofs.Opening.{Opened, opened-fine}
+use Rattle.rct.specs.Syntax.{headLength, rct}
+use Rattle.rct.specs.Reading.{bodyIn, after, countAt, linkPlace, loopPlace, entryRows, entryVerdict, linksVerdict, loopVerdict, payloadVerdict, reading, checked}
+use Rattle.rct.proofs.Links.{entry-passed, after-sum, links-sum}
+use Rattle.rct_walker.specs.Places.{spanBy, linkSpan, walked}
+use Rattle.rct_walker.specs.Stages.{spanned, restVerdict}
+use Rattle.rct_walker.specs.declared.LinkSpan.the-variants as span
+use Rattle.rct_walker.specs.declared.RctPlaces.{RctPlaces}
+use Rattle.rct_walker.specs.declared.RctWalked.the-variants as walk
+use Rattle.rct_walker.specs.declared.walk.Spanned.the-variants as spot
+
+-- ---- answers, made and taken apart
+
+pub record SpanKnown (v : Verdict) (p q a b : ℕ) : Type 0 where
+  pub fine : v ≡ Fine
+  pub start : p ≡ a
+  pub end : q ≡ b
+
+pub spanned-at : (v : Verdict) (p q a b : ℕ) → spanned v p q ≡ spot.At a b → SpanKnown v p q a b
+unfolding spanned
+spanned-at Fine p q a b e = record { fine = refl; start = cc; end = cc }
+spanned-at (Refused r) p q a b e = let z : _≡_ {A = ℕ} 0 1 = cc in absurd (omega arith)
+
+pub spanned-refused : (v : Verdict) (p q : ℕ) (r : Refusal) → spanned v p q ≡ spot.Refused r → v ≡ Refused r
+unfolding spanned
+spanned-refused Fine p q r e = let z : _≡_ {A = ℕ} 0 1 = cc in absurd (omega arith)
+spanned-refused (Refused r′) p q r e = cc
+
+pub at-spanned : (v : Verdict) (p q a b : ℕ) → v ≡ Fine → p ≡ a → q ≡ b → spot.At a b ≡ spanned v p q
+unfolding spanned
+at-spanned v p q a b f g h = rw (f, g, h)
+
+pub refused-spanned : (v : Verdict) (p q : ℕ) (r : Refusal) → v ≡ Refused r → spot.Refused r ≡ spanned v p q
+unfolding spanned
+refused-spanned v p q r e = rw e
+
+pub walked-read : (v : Verdict) (k l : RctPlaces) → walked v k ≡ walk.Read l → (v ≡ Fine) × (k ≡ l)
+unfolding walked
+walked-read Fine k l e = (refl, cc)
+walked-read (Refused r) k l e = let z : _≡_ {A = ℕ} 0 1 = cc in absurd (omega arith)
+
+pub walked-refused : (v : Verdict) (k : RctPlaces) (r : Refusal) → walked v k ≡ walk.Refused r → v ≡ Refused r
+unfolding walked
+walked-refused Fine k r e = let z : _≡_ {A = ℕ} 0 1 = cc in absurd (omega arith)
+walked-refused (Refused r′) k r e = cc
+
+pub read-walked : (v : Verdict) (k l : RctPlaces) → v ≡ Fine → k ≡ l → walk.Read l ≡ walked v k
+unfolding walked
+read-walked v k l e f = rw (e, f)
+
+pub refused-walked : (v : Verdict) (k : RctPlaces) (r : Refusal) → v ≡ Refused r → walk.Refused r ≡ walked v k
+unfolding walked
+refused-walked v k r e = rw e
+
+pub span-at : (n k p q : ℕ) → k ≤ n → span.At p q ≡ spanBy n k p q
+unfolding spanBy
+span-at n k p q h = rw (le-leb k n h)
+
+pub span-none : (n k p q : ℕ) → n < k → span.NoSuchLink ≡ spanBy n k p q
+unfolding spanBy
+span-none n k p q h = rw (lt-leb k n h)
+
+-- ---- one entry
+
+module _ (xs : List ℕ) (e p : ℕ) where
+  -- what a length field that is passed leaves known of the place t behind its entry
+  pub record Passed (t : ℕ) : Type 0 where
+    pub fine : entryRows xs e p ≡ Fine
+    pub place : blockEnd xs p ≡ t
+    pub behind : p + 2 ≤ t
+    pub within : t ≤ e
+
+  pub length-passed : (t : ℕ) → reached (entryRows xs e p) (blockEnd xs p) ≡ reach.At t → Passed t
+  length-passed t q =
+      let g = reached-at _ _ _ q in
+      let w : blockEnd xs p ≤ e = block-passed _ _ _ _ xs e p (g .0) in
+      let z : blockEnd xs p ≡ t = g .1 in
+      record { fine = g .0; place = z; behind = omega arith; within = omega arith }
+
+  pub entry-stop : (r : Refusal) → entryRows xs e p ≡ Refused r → entryVerdict xs e p ≡ Refused r
+  unfolding entryVerdict
+  entry-stop r v = refused-then _ _ r v
+
+  pub entry-body : entryRows xs e p ≡ Fine → bodyVerdict (bodyIn xs p) ≡ entryVerdict xs e p
+  unfolding entryVerdict
+  entry-body v = sym (go-on _ _ v)
+
+  -- the body's verdict as the code has it, of the part up to t
+  pub entry-said : (t : ℕ) (v : Verdict) → Passed t → v ≡ bodyVerdict (take (t - (p + 2)) (drop (p + 2) xs)) → v ≡ entryVerdict xs e p
+  entry-said t v k is = let d : t - (p + 2) ≡ lengthAt xs p = omega (arith, k .place) in is ∙ rw d (entry-body (k .fine))
+
+-- ---- the walk over n links from p on: i of them are behind it
+
+after-suc : (i : ℕ) (xs : List ℕ) (p : ℕ) → after (suc i) xs p ≡ blockEnd xs (after i xs p)
+after-suc zero xs p = refl
+after-suc (suc i) xs p = after-suc i xs (blockEnd xs p)
+
+pub after-next : (i : ℕ) (xs : List ℕ) (p : ℕ) → after (i + 1) xs p ≡ blockEnd xs (after i xs p)
+after-next i xs p = rw add-one (after-suc i xs p)
+
+module _ (xs : List ℕ) (e n i p : ℕ) (h : i < n) where
+  turn : linksVerdict (n - i) xs e p ≡ entryVerdict xs e p ▷ linksVerdict (n - (i + 1)) xs e (blockEnd xs p)
+  turn = let one : n - i ≡ suc (n - (i + 1)) = omega arith in ap (λ m. linksVerdict m xs e p) one
+
+  pub turn-on : entryVerdict xs e p ≡ Fine → linksVerdict (n - i) xs e p ≡ linksVerdict (n - (i + 1)) xs e (blockEnd xs p)
+  turn-on v = turn ∙ go-on _ _ v
+
+  pub turn-stop : (r : Refusal) → entryVerdict xs e p ≡ Refused r → linksVerdict (n - i) xs e p ≡ Refused r
+  turn-stop r v = turn ∙ refused-then _ _ r v
+
+pub walk-done : (xs : List ℕ) (e n i p : ℕ) → n ≤ i → linksVerdict (n - i) xs e p ≡ Fine
+walk-done xs e n i p h = let z : n - i ≡ 0 = omega arith in rw z
+
+pub links-within : (n : ℕ) (xs : List ℕ) (e p : ℕ) → p ≤ e → linksVerdict n xs e p ≡ Fine → after n xs p ≤ e
+links-within zero xs e p h v = h
+links-within (suc n) xs e p h v =
+    let two = then-fine (entryVerdict xs e p) _ v in
+    links-within n xs e (blockEnd xs p) (entry-passed xs e p (two .0) .within) (two .1)
+
+-- ---- two walks, the second from where the first ended
+
+module _ (m n : ℕ) (xs : List ℕ) (e p : ℕ) where
+  pub links-on : linksVerdict m xs e p ≡ Fine → linksVerdict n xs e (after m xs p) ≡ linksVerdict (m + n) xs e p
+  links-on v = sym (links-sum m n xs e p ∙ go-on _ _ v)
+
+  pub links-stop : (r : Refusal) → linksVerdict m xs e p ≡ Refused r → linksVerdict (m + n) xs e p ≡ Refused r
+  links-stop r v = links-sum m n xs e p ∙ refused-then _ _ r v
+
+-- ---- the rest of a section behind m of its n links
+
+module _ (xs : List ℕ) (m n : ℕ) (is : m + n ≡ countAt xs) where
+  whole : payloadVerdict xs ≡ linksVerdict m xs (payloadEnd xs) headLength ▷ restVerdict n xs (payloadEnd xs) (after m xs headLength)
+  unfolding payloadVerdict restVerdict
+  whole = rw (← is, links-sum m n xs (payloadEnd xs) headLength, after-sum m n xs headLength) (then-assoc _ _ _)
+
+  pub payload-stop : (r : Refusal) → linksVerdict m xs (payloadEnd xs) headLength ≡ Refused r → payloadVerdict xs ≡ Refused r
+  payload-stop r v = whole ∙ refused-then _ _ r v
+
+  pub payload-rest : linksVerdict m xs (payloadEnd xs) headLength ≡ Fine → payloadVerdict xs ≡ restVerdict n xs (payloadEnd xs) (after m xs headLength)
+  payload-rest v = whole ∙ go-on _ _ v
+
+  pub loop-place : after n xs (after m xs headLength) ≡ loopPlace xs
+  loop-place = rw (← is) (sym (after-sum m n xs headLength))
+
+-- with no link behind, the rest is the whole
+pub payload-is : (xs : List ℕ) → restVerdict (countAt xs) xs (payloadEnd xs) headLength ≡ payloadVerdict xs
+unfolding payloadVerdict restVerdict
+payload-is xs = refl
+
+module _ (n : ℕ) (xs : List ℕ) (e p : ℕ) where
+  pub rest-stop : (r : Refusal) → linksVerdict n xs e p ≡ Refused r → restVerdict n xs e p ≡ Refused r
+  unfolding restVerdict
+  rest-stop r v = refused-then _ _ r v
+
+  pub rest-loop : linksVerdict n xs e p ≡ Fine → restVerdict n xs e p ≡ loopVerdict xs e (after n xs p)
+  unfolding restVerdict
+  rest-loop v = go-on _ _ v
+
+-- ---- the rows of a whole section
+
+module _ (d : Demands) (xs : List ℕ) where
+  pub reading-closed : (r : Refusal) → opened rct d xs ≡ Refused r → reading d xs ≡ Refused r
+  unfolding reading
+  reading-closed r v = refused-then _ _ r v
+
+  pub reading-payload : opened rct d xs ≡ Fine → payloadVerdict xs ≡ reading d xs
+  unfolding reading
+  reading-payload v = sym (go-on _ _ v)
+
+  pub reading-opened : reading d xs ≡ Fine → Opened rct d xs
+  unfolding reading
+  reading-opened v = opened-fine rct d xs (then-fine (opened rct d xs) _ v .0)
+
+module _ (xs : List ℕ) where
+  pub checked-stop : (r : Refusal) → reading checkedDemands xs ≡ Refused r → checked xs ≡ Refused r
+  unfolding checked
+  checked-stop r v = refused-then _ _ r v
+
+  pub checked-crc : reading checkedDemands xs ≡ Fine → checked xs ≡ crcRow xs (payloadEnd xs)
+  unfolding checked
+  checked-crc v = go-on _ _ v
+
+  pub checked-reading : checked xs ≡ Fine → reading checkedDemands xs ≡ Fine
+  unfolding checked
+  checked-reading v = then-fine _ _ v .0
+
+-- ---- the numbers of links before link k and of its own
+
+module _ (k n a b : ℕ) (p : a ≡ min k n) (q : b ≡ min (n - a) 1) where
+  pub before-own : a + b ≡ min (k + 1) n
+  before-own = omega arith
+
+  pub left-over : a + b + (n - a - b) ≡ n
+  left-over = omega arith
+
+-- the span that the code puts together is that of link k
+pub span-is : (xs : List ℕ) (k n a b p q : ℕ) → n ≡ countAt xs → a ≡ min k n → b ≡ min (n - a) 1 → linkPlace xs a ≡ p → linkPlace xs (a + b) ≡ q → spanBy n k p q ≡ linkSpan xs k
+span-is xs k n a b p q c f g u v = rw (← u, ← v, before-own k n a b f g, f, c)
+
+-- the span of a link that there is, and that there is one
+pub record SpanOf (xs : List ℕ) (k p q : ℕ) : Type 0 where
+  pub start : linkPlace xs k ≡ p
+  pub end : blockEnd xs (linkPlace xs k) ≡ q
+
+pub span-known : (xs : List ℕ) (k p q : ℕ) → k < countAt xs → linkSpan xs k ≡ span.At p q → SpanOf xs k p q
+unfolding spanBy
+span-known xs k p q h e =
+    let m : min k (countAt xs) ≡ k = omega arith in
+    let n : min (k + 1) (countAt xs) ≡ k + 1 = omega arith in
+    both (rw (le-leb k (countAt xs) (omega arith), m, n) at e)
+  where
+    both : span.At (linkPlace xs k) (linkPlace xs (k + 1)) ≡ span.At p q → SpanOf xs k p q
+    both f = record { start = cc; end = sym (after-next k xs headLength) ∙ last f }
+      where
+        last : span.At (linkPlace xs k) (linkPlace xs (k + 1)) ≡ span.At p q → linkPlace xs (k + 1) ≡ q
+        last g = cc
+
+pub span-absent : (xs : List ℕ) (k : ℕ) → linkSpan xs k ≡ span.NoSuchLink → k < countAt xs → ⊥
+unfolding spanBy
+span-absent xs k e h = absent (rw (le-leb k (countAt xs) (omega arith)) at e)
+  where
+    absent : {a b : ℕ} → span.At a b ≡ span.NoSuchLink → ⊥
+    absent f = let z : _≡_ {A = ℕ} 0 1 = cc in omega arith

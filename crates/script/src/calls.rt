@@ -1,0 +1,57 @@
+// What a line of a script is: the name of a call, what it says, and nothing behind that.
+use crate::read::read_short;
+use crate::scan::Scan;
+use console::Short;
+use console::print::put_number;
+use console::print::put_word;
+use console::print::say;
+
+const ERROR: Short = *b"error column ___________";
+
+// Which of some calls a line has, the first being 1, or 0 for none of them, and the place behind its name.
+pub struct Call {
+    pub number: usize,
+    pub scan: Scan,
+}
+
+// Past the name of a call, if the line has it.
+fn called(line: &[u8], name: Short) -> Scan {
+    let s = read_short(line, Scan::start(), name).scan;
+    if s.is_at(line, b' ') { s } else { s.end(line) }
+}
+
+pub fn call_of(line: &[u8], names: &[Short]) -> Call {
+    let mut number: usize = 0;
+    while number < names.len() {
+        let name = names[number];
+        let scan = called(line, name);
+        number += 1;
+        if scan.is_fine {
+            return Call { number, scan };
+        }
+    }
+    Call {
+        number: 0,
+        scan: Scan::start(),
+    }
+}
+
+// What is wrong with a line, and at which of its characters, the first being 1.
+fn put_fault(s: Scan) {
+    let fault = s.fault;
+    let missing = s.missing;
+    say(ERROR);
+    put_number(std::num::wrapping_add_usize(s.at, 1));
+    put_word(fault);
+    put_word(missing);
+}
+
+// Whether a line is read without a fault up to its end. Where it is not, that is the answer.
+pub fn is_understood(line: &[u8], s: Scan) -> bool {
+    let s = s.end(line);
+    if s.is_fine {
+        return true;
+    }
+    put_fault(s);
+    false
+}

@@ -1,0 +1,51 @@
+-- `check` meets its contract. Assumes nothing.
+use Rattle.section_header.specs.Checks.{checkHeader}
+use borrow.Author.Needs.{needs}
+use Rattle.section_header.proofs.SectionHeader.check.Statement.{statement}
+use Rattle.section_header.proofs.SectionHeader.check.Tie as tie
+
+cast-check : tie.Need-cast-check
+cast-check c = search needs
+
+check-requires : tie.Need-check-requires
+check-requires c κs = search needs
+
+cast-check-2 : tie.Need-cast-check-2
+cast-check-2 c = search needs
+
+check-requires-2 : tie.Need-check-requires-2
+check-requires-2 c κs = search needs
+
+cast-check-3 : tie.Need-cast-check-3
+cast-check-3 c = search needs
+
+check-requires-3 : tie.Need-check-requires-3
+check-requires-3 c κs = search needs
+
+first-of-requires : tie.Need-first-of-requires
+first-of-requires c κs = search needs
+
+first-of-requires-2 : tie.Need-first-of-requires-2
+first-of-requires-2 c κs = search needs
+
+returns : tie.Need-returns
+unfolding checkHeader
+returns c =
+    let check3 = c .before .before .check3 in
+    let check = c .before .before .before .before .before .before .check in
+    let check2 = c .before .before .before .before .check2 in
+    rw (c .first-of2 .ensures, check3 .ensures, c .before .first-of .ensures, check .ensures, check2 .ensures)
+
+pub check-spec : {M : Type 1} → statement M
+check-spec =
+    tie.close
+    (tie.spec
+    cast-check
+    check-requires
+    cast-check-2
+    check-requires-2
+    cast-check-3
+    check-requires-3
+    first-of-requires
+    first-of-requires-2
+    returns)

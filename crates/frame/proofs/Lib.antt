@@ -2,4 +2,6 @@
 pub mod Opening
 pub mod Endings
 pub mod Listed
+pub mod Readings
+pub mod Tables
 pub mod Unique

@@ -65,3 +65,13 @@ computed xs = computedAt xs (payloadEnd xs)
 -- the checked reading's last row
 unfoldable pub crcRow : List ℕ → ℕ → Verdict
 crcRow xs e = refuse (not (eqb (storedAt xs e) (computedAt xs e))) wrongCrc (storedAt xs e) (computedAt xs e)
+
+-- ---- the readings of a table, by its own rows, those of what stands behind the opening
+
+-- by what is demanded of the section
+unfoldable pub readingBy : Table → (List ℕ → Verdict) → Demands → List ℕ → Verdict
+readingBy t rows d xs = opened t d xs ▷ rows xs
+
+-- the checked reading: then the CRC
+unfoldable pub checkedBy : Table → (List ℕ → Verdict) → List ℕ → Verdict
+checkedBy t rows xs = readingBy t rows checkedDemands xs ▷ crcRow xs (payloadEnd xs)

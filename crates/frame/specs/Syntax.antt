@@ -2,7 +2,10 @@
 -- the CRC. Nothing here reads.
 -- Assumes nothing.
 use Prim.Native.Nat.{ℕ, _+_, _-_}
+use mathlib.Core.List.{List, _++_}
+use Rattle.wire.specs.Numbers.{bytes32}
 use Rattle.wire.specs.Lengths.{longest}
+use Rattle.crc.specs.Crc.{crcOf}
 use Rattle.frame.specs.declared.Table.{Table}
 
 -- ---- the numbers that hold for every table
@@ -25,3 +28,7 @@ limit = longest
 -- the bytes of a table's smallest section
 abbrev pub least : Table → ℕ
 least t = uncounted + t .shortest
+
+-- bytes with their CRC behind them
+abbrev pub withCrc : List ℕ → List ℕ
+withCrc bs = bs ++ bytes32 (crcOf bs)

@@ -1,4 +1,4 @@
--- Document 01's refusal numbers by name. There is no 26.
+-- The refusal numbers of document 01, and of document 02's requests, by name. There is no 26, and none from 31 to 39 yet.
 -- Assumes nothing.
 use Prim.Native.Nat.{ℕ}
 
@@ -82,7 +82,7 @@ sectionSlack = 19
 abbrev pub wrongCrc : ℕ
 wrongCrc = 20
 
--- there is no link or item of that number
+-- there is no link, item, provider or authority of that number
 abbrev pub noSuchNumber : ℕ
 noSuchNumber = 21
 
@@ -117,3 +117,31 @@ noRoom = 29
 -- the section has as many links as its count can tell
 abbrev pub noMoreLinks : ℕ
 noMoreLinks = 30
+
+-- the first byte is not the table id of the resolution notification section
+abbrev pub notRnt : ℕ
+notRnt = 40
+
+-- the common descriptors are longer than the payload has left
+abbrev pub commonTooLong : ℕ
+commonTooLong = 41
+
+-- the length of a provider's info is cut off
+abbrev pub providerCut : ℕ
+providerCut = 42
+
+-- a provider's info is longer than the payload has left
+abbrev pub providerTooLong : ℕ
+providerTooLong = 43
+
+-- a provider's name, or the length of it, is cut off
+abbrev pub providerNameCut : ℕ
+providerNameCut = 44
+
+-- a provider's descriptors, or the length of them, are cut off
+abbrev pub providerDescriptorsCut : ℕ
+providerDescriptorsCut = 45
+
+-- an authority is cut off
+abbrev pub authorityCut : ℕ
+authorityCut = 46

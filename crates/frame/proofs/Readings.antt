@@ -1,7 +1,7 @@
 -- The readings of a table, whatever its own rows: what stands in front of them and what follows; a reading up to a limit and the
 -- checked one against the plain one.
 -- Assumes nothing.
-use mathlib.Core.Path.{_≡_, sym}
+use mathlib.Core.Path.{_≡_, sym, ap, _∙_}
 use mathlib.Core.Logic.{_↔_}
 use Prim.Native.Nat.{ℕ, _≤_}
 use native.Mathlib.Omega.{arith}
@@ -11,12 +11,13 @@ use Rattle.wire.specs.declared.verdict.Refusal.{Refusal}
 use Rattle.wire.specs.declared.verdict.Verdict.{Verdict}
 use Rattle.wire.specs.declared.verdict.Verdict.the-variants.{Fine, Refused}
 use Rattle.wire.proofs.Verdicts.{then-fine, fine-then, go-on, refused-then}
-use Rattle.frame.specs.Syntax.{limit}
+use Rattle.frame.specs.Syntax.{crcLength, limit, least}
 use Rattle.frame.specs.Reading.{declared, payloadEnd, plainDemands, checkedDemands, opened, stored, computed, crcRow, readingBy, checkedBy}
+use Rattle.frame.specs.Ending.{crcVerdict}
 use Rattle.frame.specs.declared.Table.{Table}
 use Rattle.frame.specs.declared.Demands.{Demands}
 use Rattle.frame.proofs.Opening.{Opened, opened-fine, fine-opened}
-use Rattle.frame.proofs.Endings.{crc-passed, crc-pass}
+use Rattle.frame.proofs.Endings.{crc-room, crc-passed, crc-pass}
 
 module _ (t : Table) (rows : List ℕ → Verdict) where
   module _ (d : Demands) (xs : List ℕ) where
@@ -60,6 +61,12 @@ module _ (t : Table) (rows : List ℕ → Verdict) where
     pub checked-pass : readingBy t rows checkedDemands xs ≡ Fine → stored xs ≡ computed xs → checkedBy t rows xs ≡ Fine
     unfolding checkedBy
     checked-pass v r = fine-then _ _ v (crc-pass xs (payloadEnd xs) r)
+
+    -- behind a reading that passed it is what the check of the CRC at the payload's end says
+    pub checked-said : (e : ℕ) (v : Verdict) → crcLength ≤ least t → readingBy t rows checkedDemands xs ≡ Fine → e ≡ payloadEnd xs → v ≡ crcVerdict xs e → checkedBy t rows xs ≡ v
+    checked-said e v four r is said =
+        let o = reading-opened checkedDemands xs r in
+        checked-crc r ∙ sym (said ∙ ap (λ k. crcVerdict xs k) is ∙ crc-room xs (payloadEnd xs) (omega (arith, four, o .large, o .within)))
 
   -- ---- against the plain reading
 

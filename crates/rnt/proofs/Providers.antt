@@ -69,6 +69,10 @@ unfolding providerHead
 head-pass xs e p h =
     fine-then _ _ (block-pass providerCut providerTooLong _ _ xs e p (h .within)) (named-pass providerNameCut providerDescriptorsCut xs (blockEnd xs p) (infoPlace p) (h .named))
 
+pub provider-within : (xs : List ℕ) (e p : ℕ) → providerVerdict xs e p ≡ Fine → blockEnd xs p ≤ e
+unfolding providerVerdict
+provider-within xs e p v = head-passed xs e p (then-fine (providerHead xs e p) _ v .0) .within
+
 module _ (xs : List ℕ) (e : ℕ) where
   pub provider-back : (q : ℕ) (p : Provider) (post : List ℕ) → ProviderFits p → drop q xs ≡ providerBytes p ++ post → q + length (providerBytes p) ≤ e
       → runs.Back xs e (blockEnd xs) (block-up xs) (providerVerdict xs e) (providerAt xs) providerBytes ProviderFits q p

@@ -52,8 +52,8 @@ pub struct ResolutionProvider {
     pub name: Span,
     pub reserved_descriptors_length: u16,
     pub descriptors: Span,
-    pub authorities_at: usize,
-    pub end: usize,
+    pub authorities_at: u16,
+    pub end: u16,
 }
 
 // An authority: where its name and its descriptors stand, and the four bits before the length of these.
@@ -62,4 +62,9 @@ pub struct CridAuthority {
     pub reserved: u16,
     pub crid_authority_policy: u16,
     pub descriptors: Span,
+}
+
+impl CridAuthority {
+    // The policies that two bits tell: of the four bits before the length the last two are one.
+    pub const POLICIES: u8 = 4;
 }

@@ -3,4 +3,5 @@ pub mod Names
 pub mod Providers
 pub mod Head
 pub mod Accepted
+pub mod Numbers
 pub mod Unique

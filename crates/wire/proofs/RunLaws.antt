@@ -3,6 +3,7 @@
 -- Assumes nothing.
 use mathlib.Core.Path.{_≡_, refl, sym, ap, _∙_}
 use Prim.Native.Nat.{ℕ, zero, suc, _+_, _-_, _≤_, _<_}
+use native.Mathlib.Nat.{not-suc-le-zero, le-of-suc-le-suc}
 use native.Mathlib.Omega.{arith}
 use mathlib.Core.Bool.{Bool, true, false}
 use mathlib.Core.List.{List, [], _∷_, _++_, map, append-assoc, append-nil}
@@ -58,6 +59,17 @@ module _ (next : ℕ → ℕ) (up : (q : ℕ) → q < next q) where
 pub each-listed : (ns : List ℕ) (row : ℕ → Verdict) → ((p : ℕ) → Among ns (row p)) → (ps : List ℕ) → Among ns (eachRow row ps)
 each-listed ns row h [] = among-fine ns
 each-listed ns row h (p ∷ ps) = among-then ns _ _ (h p) (each-listed ns row h ps)
+
+-- each of those that passed, by number, and what is told of each
+pub each-at : (row : ℕ → Verdict) (ps : List ℕ) (k : ℕ) → eachRow row ps ≡ Fine → k < length ps → row (getD ps k 0) ≡ Fine
+each-at row [] k v h = absurd (not-suc-le-zero h)
+each-at row (p ∷ ps) zero v h = then-fine (row p) _ v .0
+each-at row (p ∷ ps) (suc k) v h = each-at row ps k (then-fine (row p) _ v .1) (le-of-suc-le-suc h)
+
+pub told-at : {A : Type 0} (read : ℕ → A) (ps : List ℕ) (k : ℕ) (d : A) → k < length ps → getD (map read ps) k d ≡ read (getD ps k 0)
+told-at read [] k d h = absurd (not-suc-le-zero h)
+told-at read (p ∷ ps) zero d h = refl
+told-at read (p ∷ ps) (suc k) d h = told-at read ps k d (le-of-suc-le-suc h)
 
 -- ---- a list of records, written
 
@@ -153,3 +165,52 @@ module _ (next : ℕ → ℕ) (up : (q : ℕ) → q < next q) (row : ℕ → Ver
 
   pub run-later : (k : ℕ) → getD (placesTo next e p) (suc k) 0 ≡ getD (placesTo next e (next p)) k 0
   run-later k = ap (λ ps. getD ps (suc k) 0) (places-more next up e p h)
+
+-- ---- by number: each stands behind the one before it
+
+module _ (next : ℕ → ℕ) (up : (q : ℕ) → q < next q) (e : ℕ) where
+  -- a list of places as the walk has them, each behind the one before
+  abbrev chained : ℕ → List ℕ → Type 0
+  chained p [] = e ≤ p
+  chained p (q ∷ qs) = (q ≡ p) × chained (next q) qs
+
+  chain-in : (n p : ℕ) → e - p ≤ n → chained p (placesIn n next e p)
+  chain-in zero p h = omega arith
+  chain-in (suc n) p h = by (ltb p e) refl (λ k. chain-in n (next p) k)
+    where
+      by : (b : Bool) → ltb p e ≡ b → (e - next p ≤ n → chained (next p) (placesIn n next e (next p))) → chained p (pick b (p ∷ placesIn n next e (next p)) [])
+      by true t on =
+          let l : p < e = ltb-true p e t in
+          let u : p < next p = up p in
+          (refl, on (omega arith))
+      by false t on = ltb-false p e t
+
+  chain-next : (p : ℕ) (qs : List ℕ) (k : ℕ) → chained p qs → suc k < length qs → getD qs (suc k) 0 ≡ next (getD qs k 0)
+  chain-next p [] k c h = absurd (not-suc-le-zero h)
+  chain-next p (q ∷ []) k c h = absurd (not-suc-le-zero (le-of-suc-le-suc h))
+  chain-next p (q ∷ r ∷ qs) zero c h = c .1 .0
+  chain-next p (q ∷ r ∷ qs) (suc k) c h = chain-next (next q) (r ∷ qs) k (c .1) (le-of-suc-le-suc h)
+
+  chain-last : (p : ℕ) (qs : List ℕ) (k : ℕ) → chained p qs → suc k ≡ length qs → e ≤ next (getD qs k 0)
+  chain-last p [] k c h = absurd (omega arith)
+  chain-last p (q ∷ []) zero c h = c .1
+  chain-last p (q ∷ []) (suc k) c h = absurd (omega arith)
+  chain-last p (q ∷ r ∷ qs) zero c h = absurd (omega arith)
+  chain-last p (q ∷ r ∷ qs) (suc k) c h = chain-last (next q) (r ∷ qs) k (c .1) (omega arith)
+
+  module _ (p : ℕ) where
+    pub place-first : 0 < length (placesTo next e p) → getD (placesTo next e p) 0 0 ≡ p
+    unfolding placesTo
+    place-first h = first (placesIn (e - p) next e p) (chain-in (e - p) p (omega arith)) h
+      where
+        first : (qs : List ℕ) → chained p qs → 0 < length qs → getD qs 0 0 ≡ p
+        first [] c g = absurd (not-suc-le-zero g)
+        first (q ∷ qs) c g = c .0
+
+    pub place-next : (k : ℕ) → suc k < length (placesTo next e p) → getD (placesTo next e p) (suc k) 0 ≡ next (getD (placesTo next e p) k 0)
+    unfolding placesTo
+    place-next k h = chain-next p (placesIn (e - p) next e p) k (chain-in (e - p) p (omega arith)) h
+
+    pub place-last : (k : ℕ) → suc k ≡ length (placesTo next e p) → e ≤ next (getD (placesTo next e p) k 0)
+    unfolding placesTo
+    place-last k h = chain-last p (placesIn (e - p) next e p) k (chain-in (e - p) p (omega arith)) h

@@ -1,0 +1,1 @@
+-- The laws of providers and authorities by number, and that each public contract leaves one outcome.

@@ -1,0 +1,2 @@
+-- What provider by number and authority by number answer.
+pub mod Providers

@@ -1,0 +1,2 @@
+-- The laws of a whole reading, and that each public contract leaves one outcome.
+pub mod Unique

@@ -1,0 +1,54 @@
+-- `header_at` meets its contract. Assumes nothing.
+use mathlib.Core.Path.{_≡_}
+use native.Mathlib.Omega.{arith}
+use lib.ListN.{getD}
+use Rattle.wire.specs.Lengths.{besideOf}
+use borrow.Author.Needs.{needs}
+use Rattle.rnt_reader.proofs.header_at.Statement.{statement}
+use Rattle.rnt_reader.proofs.header_at.Tie as tie
+
+shared-slice-read-of-bytes : tie.Need-shared-slice-read-of-bytes
+shared-slice-read-of-bytes c = search needs
+
+shared-slice-read-of-bytes-2 : tie.Need-shared-slice-read-of-bytes-2
+shared-slice-read-of-bytes-2 c = search needs
+
+shared-slice-read-of-bytes-3 : tie.Need-shared-slice-read-of-bytes-3
+shared-slice-read-of-bytes-3 c = search needs
+
+shared-slice-read-of-bytes-4 : tie.Need-shared-slice-read-of-bytes-4
+shared-slice-read-of-bytes-4 c = search needs
+
+shared-slice-read-of-bytes-5 : tie.Need-shared-slice-read-of-bytes-5
+shared-slice-read-of-bytes-5 c = search needs
+
+shared-slice-read-of-bytes-6 : tie.Need-shared-slice-read-of-bytes-6
+shared-slice-read-of-bytes-6 c = search needs
+
+of-bytes-requires : tie.Need-of-bytes-requires
+of-bytes-requires c κs = search needs
+
+shared-slice-read-t4 : tie.Need-shared-slice-read-t4
+shared-slice-read-t4 c = search needs
+
+returns : tie.Need-returns
+returns c =
+    let args = c .before .before .before .before .before .before .before .before .before .args in
+    let shared-slice-known = c .before .before .before .before .before .before .before .before .shared-slice-known in
+    let s = args .s .now in
+    let bits : besideOf (getD s 1 0) (getD s 2 0) ≡ besideOf (getD s 1 0) 0 = omega (arith, shared-slice-known .given 2) in
+    rw (c .before .of-bytes .ensures, bits)
+
+pub header-at-spec : {M : Type 1} → statement M
+header-at-spec =
+    tie.close
+    (tie.spec
+    shared-slice-read-of-bytes
+    shared-slice-read-of-bytes-2
+    shared-slice-read-of-bytes-3
+    shared-slice-read-of-bytes-4
+    shared-slice-read-of-bytes-5
+    shared-slice-read-of-bytes-6
+    of-bytes-requires
+    shared-slice-read-t4
+    returns)

@@ -1,0 +1,2 @@
+-- What the readings of a whole section answer.
+pub mod Sections

@@ -1,1 +1,2 @@
 -- The laws of providers and authorities by number, and that each public contract leaves one outcome.
+pub mod Answers

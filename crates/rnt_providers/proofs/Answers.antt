@@ -2,13 +2,26 @@
 -- Assumes nothing.
 use mathlib.Core.Path.{_≡_, sym, _∙_}
 use Prim.Native.Nat.{ℕ, _≤_, _<_}
+use native.Mathlib.Omega.{arith}
 use mathlib.Core.List.{List}
 use Rattle.wire.specs.Refusals.{noSuchNumber}
 use Rattle.wire.specs.declared.verdict.Refusal.{Refusal}
 use Rattle.wire.specs.declared.verdict.Verdict.the-variants.{Fine, Refused}
+use Rattle.wire.proofs.RunLaws.{told-at}
 use Rattle.wire.proofs.Verdicts.{fine-then, go-on, refused-then, pass-leb, break-leb}
-use Rattle.rnt.specs.Reading.{providerCount, providerPlace, authorityCount, authorityPlace, plain, providerRows, authorityRows}
+use Rattle.frame.specs.Reading.{payloadEnd}
+use Rattle.rnt.specs.Reading.{providerPlaces, providerCount, providerPlace, authorityCount, authorityPlace, plain, providerRows, authorityRows}
 use Rattle.rnt.specs.Records.{providerInfo, authorityInfo}
+use Rattle.rnt.specs.declared.CridAuthority.{CridAuthority}
+use Rattle.rnt.specs.declared.ResolutionProvider.{ResolutionProvider}
+use Rattle.rnt.proofs.Numbers.{provider-passed}
+use Rattle.rnt_walker.specs.Places.{authoritiesOf, authorityOf}
+use Rattle.rnt_walker.specs.Entries.{providerFrom, authorityFrom}
+use Rattle.rnt_walker.specs.declared.entry.ProviderFound.{ProviderFound}
+use Rattle.rnt_walker.specs.declared.entry.ProviderFound.the-variants as providing
+use Rattle.rnt_walker.specs.declared.entry.AuthorityFound.{AuthorityFound}
+use Rattle.rnt_walker.specs.declared.entry.AuthorityFound.the-variants as authoring
+use Rattle.rnt_walker.proofs.Listing.{listed-provider, listed-authority}
 use Rattle.rnt_providers.specs.Providers.{providerBy, authorityBy, numberedProvider, numberedAuthority}
 use Rattle.rnt_providers.specs.declared.ProviderRead.the-variants as provider
 use Rattle.rnt_providers.specs.declared.AuthorityRead.the-variants as authority
@@ -69,3 +82,44 @@ module _ (xs : List ℕ) (k : ℕ) where
     pub authority-got : authorityRows xs k j ≡ Fine → numberedAuthority xs k j ≡ authority.Got (authorityInfo xs (authorityPlace xs (providerPlace xs k) j))
     unfolding numberedAuthority authorityBy
     authority-got v = rw v
+
+-- ---- by what a walk found: the places of provider k and of its authority j, where there are such
+
+module _ (xs : List ℕ) (v : plain xs ≡ Fine) (k : ℕ) (h : k < providerCount xs) where
+  pub authorities-are : authoritiesOf xs k ≡ authorityCount xs (providerPlace xs k)
+  authorities-are = told-at (authorityCount xs) (providerPlaces xs) k 0 h
+
+  pub authority-stands : (j : ℕ) → authorityOf xs k j ≡ authorityPlace xs (providerPlace xs k) j
+  authority-stands j = told-at (λ p. authorityPlace xs p j) (providerPlaces xs) k 0 h
+
+  same-provider : (p q : ResolutionProvider) → providing.Got p ≡ providing.Got q → p ≡ q
+  same-provider p q e = cc
+
+  -- the call by place answers that provider
+  module _ (f : ProviderFound) (is : f ≡ providerFrom xs (payloadEnd xs) (providerPlace xs k)) where
+    pub provider-said : (p : ResolutionProvider) (n : ℕ) → f ≡ providing.Got p → n ≡ authoritiesOf xs k → provider.Got p n ≡ numberedProvider xs k
+    provider-said p n e m =
+        let t = same-provider _ p (sym (listed-provider xs v k h) ∙ sym is ∙ e) in
+        rw (← t, m, authorities-are) (sym (provider-got xs k (rows-pass xs k v h)))
+
+    pub provider-never : (r : Refusal) → f ≡ providing.Refused r → ⊥
+    provider-never r e = apart (sym (listed-provider xs v k h) ∙ sym is ∙ e)
+      where
+        apart : {p : ResolutionProvider} → providing.Got p ≡ providing.Refused r → ⊥
+        apart g = let z : _≡_ {A = ℕ} 0 1 = cc in omega arith
+
+  same-authority : (p q : CridAuthority) (m n : ℕ) → authoring.Got p m ≡ authoring.Got q n → p ≡ q
+  same-authority p q m n e = cc
+
+  -- and that authority
+  module _ (j : ℕ) (l : j < authorityCount xs (providerPlace xs k)) (f : AuthorityFound) (is : f ≡ authorityFrom xs (payloadEnd xs) (authorityPlace xs (providerPlace xs k) j)) where
+    pub authority-said : (p : CridAuthority) (n : ℕ) → f ≡ authoring.Got p n → authority.Got p ≡ numberedAuthority xs k j
+    authority-said p n e =
+        let t = same-authority _ p _ n (sym (listed-authority xs v k h (payloadEnd xs) j l (provider-passed xs v k h .within)) ∙ sym is ∙ e) in
+        rw (← t) (sym (authority-got xs k j (authority-rows-pass xs k j (rows-pass xs k v h) l)))
+
+    pub authority-never : (r : Refusal) → f ≡ authoring.Refused r → ⊥
+    authority-never r e = apart (sym (listed-authority xs v k h (payloadEnd xs) j l (provider-passed xs v k h .within)) ∙ sym is ∙ e)
+      where
+        apart : {p : CridAuthority} {n : ℕ} → authoring.Got p n ≡ authoring.Refused r → ⊥
+        apart g = let z : _≡_ {A = ℕ} 0 1 = cc in omega arith

@@ -1,2 +1,3 @@
 -- The laws of providers and authorities by number, and that each public contract leaves one outcome.
 pub mod Answers
+pub mod Unique

@@ -1,24 +1,26 @@
--- A reading accepts exactly what the syntax writes. Rebuild: the records of an accepted section fit, and are written as the bytes that were read. Read back: what records that fit are written as is accepted, and gives those records. So no two records share bytes.
+-- A reading accepts exactly what the syntax writes. Rebuild: the records of an accepted section fit, and are written as the bytes that were read. Read back: what records that fit are written as is accepted, and gives those records. What follows from the two is frame's, of any table: accepted exactly, and no two records share bytes.
 -- Assumes nothing.
 use mathlib.Core.Path.{_≡_, refl, sym, ap, _∙_}
 use mathlib.Core.Logic.{_↔_}
 use Prim.Native.Nat.{ℕ, _+_, _-_, _≤_}
 use native.Mathlib.Omega.{arith}
 use mathlib.Core.List.{List, [], _++_, append-assoc}
-use lib.ListN.{length, take, drop, replicate, length-append, length-take, length-replicate, take-append-drop}
+use lib.ListN.{length, take, drop, length-append, length-take}
 use lib.Seq.{take-at}
-use Rattle.wire.specs.Lists.{Bytes, part}
+use Rattle.wire.specs.Lists.{Bytes}
 use Rattle.wire.specs.Lengths.{longest, lengthBytes, blockBytes, blockAt, blockEnd}
 use Rattle.wire.specs.declared.verdict.Verdict.the-variants.{Fine}
-use Rattle.wire.proofs.Lists.{bytes-at, length-part}
+use Rattle.wire.proofs.Lists.{bytes-at}
 use Rattle.wire.proofs.Blocks.{block-length, BlockRead, block-back, block-rebuild, block-fits}
 use Rattle.wire.specs.Refusals.{loopCut, loopTooLong, sectionSlack}
 use Rattle.wire.proofs.Verdicts.{then-fine, fine-then}
 use Rattle.section_header.specs.Syntax.{headerBytes}
-use Rattle.frame.specs.Syntax.{uncounted, crcLength}
-use Rattle.frame.specs.Reading.{declared, totalOf, payloadEnd, opened}
+use Rattle.frame.specs.Syntax.{uncounted, crcLength, least}
+use Rattle.frame.specs.Reading.{declared, totalOf, payloadEnd}
 use Rattle.frame.specs.declared.Demands.{Demands}
-use Rattle.frame.proofs.Opening.{Opened, opened-fine, fine-opened}
+use Rattle.frame.proofs.Opening.{Opened}
+use Rattle.frame.proofs.Readings.{reading-opened, reading-passed, reading-pass}
+use Rattle.frame.proofs.Tables as tables
 use Rattle.rct.specs.Syntax.{headLength, shortest, rct, Section, headBytes, linksBytes, payload, sectionLength, fullLength, sectionBytes, Fits}
 use Rattle.rct.specs.Reading.{countAt, after, linksAt, loopPlace, sectionAt, linksVerdict, payloadVerdict, reading}
 use Rattle.rct.proofs.Head.{head-rebuild, rct-header-fits, HeadRead, head-back}
@@ -58,11 +60,10 @@ pub record Accepted (d : Demands) (xs : List ℕ) : Type 0 where
 
 module _ (d : Demands) (xs : List ℕ) (b : Bytes xs) where
   pub accepted : reading d xs ≡ Fine → Accepted d xs
-  unfolding reading payloadVerdict
+  unfolding payloadVerdict
   accepted v =
-      let one = then-fine (opened rct d xs) _ v in
-      let two = then-fine (linksVerdict (countAt xs) xs (payloadEnd xs) headLength) _ (one .1) in
-      let o = opened-fine rct d xs (one .0) in
+      let o = reading-opened rct payloadVerdict d xs v in
+      let two = then-fine (linksVerdict (countAt xs) xs (payloadEnd xs) headLength) _ (reading-passed rct payloadVerdict d xs v) in
       record {
         frame = o;
         links-fine = two .0;
@@ -113,7 +114,7 @@ pub record ReadBack (d : Demands) (s : Section) (xs : List ℕ) : Type 0 where
 
 read-from : (d : Demands) (s : Section) (xs tail : List ℕ) → Fits d s → crcLength ≤ length tail
     → HeadRead (s .header) (sectionLength s) (length (s .links)) xs (payload s ++ tail) → (reading d xs ≡ Fine) × (sectionAt xs ≡ s)
-unfolding reading payloadVerdict sectionAt sectionLength payload
+unfolding payloadVerdict sectionAt sectionLength payload
 read-from d s xs tail f t hd = (passed, λ i. record { header = hd .header i; links = linksOk i; loop = loop .same i })
   where
     size : length xs ≡ headLength + length (payload s) + length tail
@@ -137,7 +138,7 @@ read-from d s xs tail f t hd = (passed, λ i. record { header = hd .header i; li
 
     passed : reading d xs ≡ Fine
     passed =
-        fine-then _ _ (fine-opened rct d xs frame)
+        reading-pass rct payloadVerdict d xs frame
         (fine-then _ _ (ap (λ n. linksVerdict n xs (payloadEnd xs) headLength) (hd .count-is) ∙ links .passed) (last-pass loopCut loopTooLong sectionSlack xs (payloadEnd xs) (loopPlace xs) end))
 
     linksOk : linksAt (countAt xs) xs headLength ≡ s .links
@@ -161,40 +162,25 @@ read-back d s tail m f t =
 
 -- ---- accepted exactly
 
+-- the two laws, as frame has them of a table
+pub rebuilt : (d : Demands) (xs : List ℕ) → Bytes xs → reading d xs ≡ Fine → tables.Rebuilt rct payloadVerdict sectionBytes sectionAt Fits d xs
+rebuilt d xs b v = record { same = rebuild d xs b v; fits = accepted-fits d xs b v }
+
+pub back : (d : Demands) (s : Section) (tail : List ℕ) → d .most ≤ longest → Fits d s → crcLength ≤ length tail
+    → tables.Back rct payloadVerdict sectionBytes sectionAt Fits d s (sectionBytes s ++ tail)
+back d s tail m f t = let r = read-back d s tail m f t in record { passed = r .passed; same = r .same; end = omega (arith, r .total, length-section s) }
+
+-- the smallest section has room for a CRC
+pub crc-least : crcLength ≤ least rct
+crc-least = omega arith
+
 -- the bytes of a section that fits, then four for its CRC, then whatever follows
-pub record Written (d : Demands) (xs : List ℕ) : Type 0 where
-  pub section : Section
-  pub fits : Fits d section
-  pub crc : List ℕ
-  pub four : length crc ≡ crcLength
-  pub rest : List ℕ
-  pub is : xs ≡ sectionBytes section ++ (crc ++ rest)
+abbrev pub Written : Demands → List ℕ → Type 0
+Written = tables.Written rct payloadVerdict sectionBytes sectionAt Fits
 
 pub accepted-iff : (d : Demands) (xs : List ℕ) → d .most ≤ longest → Bytes xs → (reading d xs ≡ Fine) ↔ Written d xs
-accepted-iff d xs m b = (to, from)
-  where
-    to : reading d xs ≡ Fine → Written d xs
-    to v =
-        let a = accepted d xs b v in
-        let e : ℕ = payloadEnd xs in
-        record {
-          section = sectionAt xs;
-          fits = accepted-fits d xs b v;
-          crc = part xs e crcLength;
-          four = length-part xs e crcLength (omega (arith, a .frame .large, a .frame .within));
-          rest = drop crcLength (drop e xs);
-          is = rw (rebuild d xs b v) (sym (ap (λ r. take e xs ++ r) (take-append-drop crcLength (drop e xs)) ∙ take-append-drop e xs));
-        }
-
-    from : Written d xs → reading d xs ≡ Fine
-    from w = rw (w .is) (read-back d (w .section) (w .crc ++ w .rest) m (w .fits) (simp length-append (omega (arith, w .four))) .passed)
+accepted-iff = tables.accepted-iff rct payloadVerdict sectionBytes sectionAt Fits crc-least rebuilt back
 
 -- no section's bytes begin with another's, whatever follows either
 pub one-section : (d : Demands) (s t : Section) (a b : List ℕ) → d .most ≤ longest → Fits d s → Fits d t → sectionBytes s ++ a ≡ sectionBytes t ++ b → s ≡ t
-one-section d s t a b m f g e = sym (back s a f) ∙ ap (λ l. sectionAt (l ++ crc)) e ∙ back t b g
-  where
-    crc : List ℕ
-    crc = replicate crcLength 0
-
-    back : (r : Section) (c : List ℕ) → Fits d r → sectionAt ((sectionBytes r ++ c) ++ crc) ≡ r
-    back r c h = rw append-assoc (read-back d r (c ++ crc) m h (simp (length-append, length-replicate) (omega arith)) .same)
+one-section = tables.one-section rct payloadVerdict sectionBytes sectionAt Fits crc-least rebuilt back

@@ -1,77 +1,49 @@
--- The checked reading: fine exactly if the plain one is, the length is within the limit and the CRC is right; and so exactly if the bytes begin with a sealed section.
+-- The checked reading: fine exactly if the plain one is, the length is within the limit and the CRC is right; and so exactly if the bytes begin with a sealed section. Both are frame's, of any table.
 -- Assumes nothing.
-use mathlib.Core.Path.{_≡_, sym, ap, _∙_}
+use mathlib.Core.Path.{_≡_, refl}
 use mathlib.Core.Logic.{_↔_}
 use Prim.Native.Nat.{ℕ, _≤_, _<_}
 use native.Mathlib.Omega.{arith}
-use mathlib.Core.List.{List, [], _∷_, _++_, append-assoc}
-use lib.ListN.{length, take, drop, length-append, take-append-drop}
-use lib.Seq.{take-at, drop-at}
-use Rattle.wire.specs.Lists.{Bytes, part}
-use Rattle.wire.specs.Numbers.{bytes32, be32}
+use mathlib.Core.List.{List, [], _∷_, _++_}
+use lib.ListN.{length, take, length-append}
+use lib.Seq.{take-at}
+use Rattle.wire.specs.Lists.{Bytes}
+use Rattle.wire.specs.Numbers.{bytes32}
 use Rattle.wire.specs.Lengths.{longest, lengthBytes, Block, BlockFits, blockBytes}
 use Rattle.wire.specs.declared.verdict.Verdict.the-variants.{Fine}
 use Rattle.wire.proofs.Lists.{bytes-append}
-use Rattle.wire.proofs.Words.{length-bytes32, bytes32-bytes, be32-back, be32-rebuild}
+use Rattle.wire.proofs.Words.{length-bytes32, bytes32-bytes}
 use Rattle.wire.proofs.Blocks.{lengthBytes-bytes}
-use Rattle.wire.proofs.Verdicts.{then-fine, fine-then, passed-leb, pass-leb}
-use Rattle.frame.proofs.Endings.{crc-passed, crc-pass}
+use Rattle.wire.proofs.Verdicts.{passed-leb, pass-leb}
 use Rattle.crc.specs.Crc.{crcOf}
 use Rattle.crc.proofs.Ending.{crc-lt}
 use Rattle.link.specs.Syntax.{Link, entryOf}
-use Rattle.frame.specs.Syntax.{crcLength, limit}
-use Rattle.frame.specs.Reading.{declared, totalOf, payloadEnd, opened, plainDemands, checkedDemands, stored, computed, computedAt, crcRow}
+use Rattle.frame.specs.Reading.{totalOf, checkedDemands}
 use Rattle.frame.specs.declared.Demands.{Demands}
-use Rattle.frame.proofs.Opening.{opened-fine, fine-opened}
+use Rattle.frame.proofs.Readings as readings
+use Rattle.frame.proofs.Tables as tables
 use Rattle.rct.specs.Syntax.{headLength, rct, Section, headBytes, linksBytes, payload, sectionLength, fullLength, sectionBytes, sealed, LinksFit, Fits}
-use Rattle.rct.specs.Reading.{countAt, sectionAt, reading, plain, numberRow, checked}
+use Rattle.rct.specs.Reading.{countAt, sectionAt, payloadVerdict, reading, numberRow, checked}
 use Rattle.rct.proofs.Head.{head-bytes}
 use Rattle.rct.proofs.Links.{entry-fits, length-linksAt}
-use Rattle.rct.proofs.Accepted.{length-section, accepted, rebuild, accepted-fits, ReadBack, read-back}
+use Rattle.rct.proofs.Accepted.{length-section, shortest-least, rebuilt, back, crc-least}
 
 -- ---- against the plain reading
 
-pub record Within (d : Demands) (xs : List ℕ) : Type 0 where
-  pub plainly : plain xs ≡ Fine
-  pub limited : declared xs ≤ d .most
+-- plainly fine, and no longer than d demands
+abbrev pub Within : Demands → List ℕ → Type 0
+Within = readings.Within rct payloadVerdict
 
 -- a reading up to a limit is the plain one, of sections within the limit
 pub within-iff : (d : Demands) (xs : List ℕ) → d .most ≤ longest → (reading d xs ≡ Fine) ↔ Within d xs
-unfolding reading
-within-iff d xs m = (to, from)
-  where
-    to : reading d xs ≡ Fine → Within d xs
-    to v =
-        let one = then-fine (opened rct d xs) _ v in
-        let o = opened-fine rct d xs (one .0) in
-        record {
-          plainly = fine-then _ _ (fine-opened rct plainDemands xs (record { id-is = o .id-is; large = o .large; within = o .within; limited = omega (arith, o .limited) })) (one .1);
-          limited = o .limited;
-        }
+within-iff = readings.within-iff rct payloadVerdict
 
-    from : Within d xs → reading d xs ≡ Fine
-    from w =
-        let one = then-fine (opened rct plainDemands xs) _ (w .plainly) in
-        let o = opened-fine rct plainDemands xs (one .0) in
-        fine-then _ _ (fine-opened rct d xs (record { id-is = o .id-is; large = o .large; within = o .within; limited = w .limited })) (one .1)
-
-pub record Checks (xs : List ℕ) : Type 0 where
-  pub plainly : plain xs ≡ Fine
-  pub limited : declared xs ≤ limit
-  pub right : stored xs ≡ computed xs
+-- plainly fine, within the limit, and the stored CRC is the computed one
+abbrev pub Checks : List ℕ → Type 0
+Checks = readings.Checks rct payloadVerdict
 
 pub checked-iff : (xs : List ℕ) → (checked xs ≡ Fine) ↔ Checks xs
-unfolding checked
-checked-iff xs = (to, from)
-  where
-    to : checked xs ≡ Fine → Checks xs
-    to v =
-        let one = then-fine (reading checkedDemands xs) _ v in
-        let w = within-iff checkedDemands xs (omega arith) .0 (one .0) in
-        record { plainly = w .plainly; limited = w .limited; right = crc-passed xs (payloadEnd xs) (one .1) }
-
-    from : Checks xs → checked xs ≡ Fine
-    from k = fine-then _ _ (within-iff checkedDemands xs (omega arith) .1 (record { plainly = k .plainly; limited = k .limited })) (crc-pass xs (payloadEnd xs) (k .right))
+checked-iff = readings.checked-iff rct payloadVerdict
 
 -- ---- against the syntax
 
@@ -80,66 +52,41 @@ unfolding sealed
 length-sealed s = omega (arith, length-append (sectionBytes s) (bytes32 (crcOf (sectionBytes s))), length-bytes32 (crcOf (sectionBytes s)), length-section s)
 
 -- the list begins with the section s, sealed
-pub record Holds (s : Section) (xs : List ℕ) : Type 0 where
-  pub fits : Fits checkedDemands s
-  pub rest : List ℕ
-  pub is : xs ≡ sealed s ++ rest
+abbrev pub Holds : Section → List ℕ → Type 0
+Holds = tables.Holds rct payloadVerdict sectionBytes sectionAt Fits
 
-pub record Known (s : Section) (xs : List ℕ) : Type 0 where
-  pub passed : checked xs ≡ Fine
-  pub same : sectionAt xs ≡ s
-  pub total : totalOf xs ≡ fullLength s
+-- made of `sealed s` and a rest, and taken apart again
+pub sealed-holds : (s : Section) (rest : List ℕ) → Fits checkedDemands s → Holds s (sealed s ++ rest)
+unfolding sealed
+sealed-holds s rest f = record { fits = f; rest = rest; is = refl }
+
+pub holds-sealed : (s : Section) (xs : List ℕ) (h : Holds s xs) → xs ≡ sealed s ++ h .rest
+unfolding sealed
+holds-sealed s xs h = h .is
+
+-- the list passes, is read as s, and its CRC stands behind the bytes of s
+abbrev pub Known : Section → List ℕ → Type 0
+Known = tables.Known rct payloadVerdict sectionBytes sectionAt Fits crc-least rebuilt back
 
 -- a sealed section passes, and is read as what it was written from
 pub holds-known : (s : Section) (xs : List ℕ) → Holds s xs → Known s xs
-unfolding sealed checked computedAt
-holds-known s xs h = record { passed = fine-then _ _ (rb .passed) (crc-pass xs (payloadEnd xs) right); same = rb .same; total = rb .total }
-  where
-    n : ℕ
-    n = crcOf (sectionBytes s)
+holds-known = tables.holds-known rct payloadVerdict sectionBytes sectionAt Fits crc-least rebuilt back
 
-    tail : List ℕ
-    tail = bytes32 n ++ h .rest
-
-    split : xs ≡ sectionBytes s ++ tail
-    split = h .is ∙ append-assoc (sectionBytes s) (bytes32 n) (h .rest)
-
-    enough : crcLength ≤ length tail
-    enough = omega (arith, length-append (bytes32 n) (h .rest), length-bytes32 n)
-
-    rb : ReadBack checkedDemands s xs
-    rb = rw split (read-back checkedDemands s tail (omega arith) (h .fits) enough)
-
-    behind : drop (payloadEnd xs) xs ≡ tail
-    behind = ap (λ l. drop (payloadEnd xs) l) split ∙ drop-at (sectionBytes s) tail (payloadEnd xs) (omega (arith, rb .total, length-section s))
-
-    right : stored xs ≡ computed xs
-    right = be32-back xs (payloadEnd xs) n (h .rest) behind ∙ ap crcOf (sym (rb .bytes))
+pub holds-total : (s : Section) (xs : List ℕ) → Holds s xs → totalOf xs ≡ fullLength s
+holds-total s xs h = omega (arith, holds-known s xs h .end, length-section s, shortest-least s)
 
 -- what passes begins with the section that is read, sealed
 pub checked-holds : (xs : List ℕ) → Bytes xs → checked xs ≡ Fine → Holds (sectionAt xs) xs
-unfolding sealed checked computedAt
-checked-holds xs b v =
-    let one = then-fine (reading checkedDemands xs) _ v in
-    let a = accepted checkedDemands xs b (one .0) in
-    let e : ℕ = payloadEnd xs in
-    let right : be32 xs e ≡ crcOf (take e xs) = crc-passed xs (payloadEnd xs) (one .1) in
-    let four : bytes32 (be32 xs e) ≡ part xs e crcLength = be32-rebuild xs e b (omega (arith, a .frame .large, a .frame .within)) in
-    record {
-      fits = accepted-fits checkedDemands xs b (one .0);
-      rest = drop crcLength (drop e xs);
-      is = rw (rebuild checkedDemands xs b (one .0), ← right, four, append-assoc, take-append-drop crcLength (drop e xs)) (sym (take-append-drop e xs));
-    }
+checked-holds = tables.checked-holds rct payloadVerdict sectionBytes sectionAt Fits crc-least rebuilt back
 
-pub record Sealed (xs : List ℕ) : Type 0 where
-  pub section : Section
-  pub holds : Holds section xs
+abbrev pub Sealed : List ℕ → Type 0
+Sealed = tables.Sealed rct payloadVerdict sectionBytes sectionAt Fits
 
 pub checked-exactly : (xs : List ℕ) → Bytes xs → (checked xs ≡ Fine) ↔ Sealed xs
-checked-exactly xs b = ((λ v. record { section = sectionAt xs; holds = checked-holds xs b v }), (λ h. holds-known (h .section) xs (h .holds) .passed))
+checked-exactly = tables.checked-exactly rct payloadVerdict sectionBytes sectionAt Fits crc-least rebuilt back
 
 pub holds-bytes : (s : Section) (xs : List ℕ) → Holds s xs → take (fullLength s) xs ≡ sealed s
-holds-bytes s xs h = rw (h .is) (take-at (sealed s) (h .rest) (fullLength s) (length-sealed s))
+holds-bytes s xs h = rw (holds-sealed s xs h) (take-at (sealed s) (h .rest) (fullLength s) (length-sealed s))
 
 pub count-is : (xs : List ℕ) → length (sectionAt xs .links) ≡ countAt xs
 unfolding sectionAt

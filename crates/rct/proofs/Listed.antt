@@ -10,7 +10,7 @@ use Rattle.wire.specs.Refusals.{tooShort, notRct, wrongLength, entryCut, linkTo
 use Rattle.wire.specs.Verdict.{bad}
 use Rattle.wire.proofs.Among.{Among, among-fine, among-row, among-then, among-more, among-never, block-listed, last-listed}
 use Rattle.link.proofs.Listed.{bodyReading, body-listed}
-use Rattle.frame.specs.Reading.{payloadEnd, plainDemands, checkedDemands}
+use Rattle.frame.specs.Reading.{payloadEnd, plainDemands, checkedDemands, readingBy, checkedBy}
 use Rattle.frame.specs.declared.Demands.{Demands}
 use Rattle.frame.proofs.Listed.{opening, limitedOpening, limited-listed, opening-listed, limit-reaches, crc-listed}
 use Rattle.rct.specs.Syntax.{headLength, rct}
@@ -53,7 +53,7 @@ payload-listed xs =
 
 -- by demands that take every length which 12 bits tell
 pub reading-listed : (d : Demands) (xs : List ℕ) → longest ≤ d .most → Among plainReading (reading d xs)
-unfolding reading
+unfolding readingBy
 reading-listed d xs h = among-then plainReading _ _ (among-more (opening rct) plainReading _ refl (opening-listed rct d xs h)) (payload-listed xs)
 
 pub plain-listed : (xs : List ℕ) → Among plainReading (plain xs)
@@ -65,14 +65,14 @@ plain-never-28 xs = among-never plainReading (plain xs) sectionTooLong (plain-li
 
 -- the limit is not below the field's, so the checked reading's last is 20
 pub checked-listed : (xs : List ℕ) → Among checkedReading (checked xs)
-unfolding checked
+unfolding checkedBy
 checked-listed xs =
     among-then checkedReading _ _ (among-more plainReading checkedReading _ refl (reading-listed checkedDemands xs limit-reaches))
     (among-more (wrongCrc ∷ []) checkedReading _ refl (crc-listed xs (payloadEnd xs)))
 
 -- whatever the limit is
 pub checked-limited : (xs : List ℕ) → Among limitedReading (checked xs)
-unfolding checked reading
+unfolding checkedBy readingBy
 checked-limited xs =
     among-then limitedReading _ _
     (among-then limitedReading _ _ (among-more (limitedOpening rct) limitedReading _ refl (limited-listed rct checkedDemands xs))

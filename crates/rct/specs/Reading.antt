@@ -13,7 +13,7 @@ use Rattle.wire.specs.declared.verdict.Verdict.the-variants.{Fine}
 use Rattle.link.specs.Syntax.{Link}
 use Rattle.link.specs.Reading.{bodyVerdict, linkAt}
 use Rattle.section_header.specs.Reading.{headerAt}
-use Rattle.frame.specs.Reading.{payloadEnd, plainDemands, checkedDemands, opened, crcRow}
+use Rattle.frame.specs.Reading.{payloadEnd, plainDemands, readingBy, checkedBy}
 use Rattle.frame.specs.declared.Demands.{Demands}
 use Rattle.rct.specs.declared.RctHeader.{RctHeader}
 use Rattle.rct.specs.Syntax.{yearPlace, linkCountPlace, headLength, rct, Section}
@@ -76,9 +76,9 @@ loopVerdict = lastVerdict loopCut loopTooLong sectionSlack
 unfoldable pub payloadVerdict : List ℕ → Verdict
 payloadVerdict xs = linksVerdict (countAt xs) xs (payloadEnd xs) headLength ▷ loopVerdict xs (payloadEnd xs) (loopPlace xs)
 
--- the reading of a section, by what is demanded of it
-unfoldable pub reading : Demands → List ℕ → Verdict
-reading d xs = opened rct d xs ▷ payloadVerdict xs
+-- the reading of a section, by what is demanded of it: what stands in front, then the payload
+abbrev pub reading : Demands → List ℕ → Verdict
+reading = readingBy rct payloadVerdict
 
 abbrev pub plain : List ℕ → Verdict
 plain = reading plainDemands
@@ -87,6 +87,6 @@ plain = reading plainDemands
 unfoldable pub numberRow : List ℕ → ℕ → Verdict
 numberRow xs k = countedRow (countAt xs) k
 
--- the checked reading: then the CRC
-unfoldable pub checked : List ℕ → Verdict
-checked xs = reading checkedDemands xs ▷ crcRow xs (payloadEnd xs)
+-- the checked reading: by its own demands, then the CRC
+abbrev pub checked : List ℕ → Verdict
+checked = checkedBy rct payloadVerdict

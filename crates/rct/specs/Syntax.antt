@@ -4,13 +4,12 @@ use Prim.Native.Nat.{ℕ, _+_, _-_, _≤_, _<_}
 use mathlib.Core.Bool.{Bool}
 use mathlib.Core.List.{List, [], _∷_, _++_}
 use lib.ListN.{length}
-use Rattle.wire.specs.Numbers.{bytes16, bytes32}
+use Rattle.wire.specs.Numbers.{bytes16}
 use Rattle.wire.specs.Lengths.{longest, Block, BlockFits, blockBytes}
 use Rattle.wire.specs.Refusals.{notRct}
-use Rattle.crc.specs.Crc.{crcOf}
 use Rattle.link.specs.Syntax.{Link, LinkFits, linkBody, entryOf}
 use Rattle.section_header.specs.Syntax.{frontLength, headerBytes, HeaderFits, newHeader}
-use Rattle.frame.specs.Syntax.{uncounted, crcLength}
+use Rattle.frame.specs.Syntax.{uncounted, crcLength, withCrc}
 use Rattle.frame.specs.declared.Demands.{Demands}
 use Rattle.frame.specs.declared.Table.{Table}
 use Rattle.rct.specs.declared.RctHeader.{RctHeader}
@@ -78,7 +77,7 @@ unfoldable pub sectionBytes : Section → List ℕ
 sectionBytes s = headBytes (s .header) (sectionLength s) (length (s .links)) ++ payload s
 
 unfoldable pub sealed : Section → List ℕ
-sealed s = sectionBytes s ++ bytes32 (crcOf (sectionBytes s))
+sealed s = withCrc (sectionBytes s)
 
 -- ---- which records have bytes: each number is within its field
 

@@ -16,7 +16,7 @@ use Rattle.frame.specs.Reading.{plainDemands, declared, payloadEnd, totalOf}
 use Rattle.rct.specs.Syntax.{Fits}
 use Rattle.rct.specs.Reading.{countAt, sectionAt, plain}
 use Rattle.rct.proofs.Accepted.{Accepted, accepted, accepted-fits}
-use Rattle.rct.proofs.Checked.{holds-known}
+use Rattle.rct.proofs.Checked.{holds-total}
 use Rattle.rct_links.proofs.Images.{link-answer}
 use Rattle.rct_edit.specs.Edit.{bare, Outcome, made}
 use Rattle.rct_edit.proofs.Calls.{made-stepped}
@@ -40,7 +40,7 @@ rebuilt-section xs zs b p l r =
       none-refused = rw counted (all .accepted);
       total =
           ap (λ n. appendAll (madeAgain zs xs) xs (linksFrom n 0 xs) .total) counted
-          ∙ all .held .total ∙ sym (holds-known (all .held .section) (last .buffer) (all .held .holds) .total)
+          ∙ all .held .total ∙ sym (holds-total (all .held .section) (last .buffer) (all .held .holds))
           ∙ ap totalOf final ∙ same;
       bytes = rw counted final;
     }

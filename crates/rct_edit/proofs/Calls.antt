@@ -17,7 +17,7 @@ use Rattle.frame.specs.Reading.{checkedDemands, totalOf}
 use Rattle.rct.specs.declared.RctHeader.{RctHeader}
 use Rattle.rct.specs.Syntax.{Section, sectionLength, fullLength, sealed, RctHeaderFits, Fits}
 use Rattle.rct.specs.Reading.{numberRow, countAt, sectionAt, checked}
-use Rattle.rct.proofs.Checked.{length-sealed, Holds, holds-known, checked-holds, count-is, number-passed, number-pass}
+use Rattle.rct.proofs.Checked.{length-sealed, Holds, sealed-holds, holds-sealed, holds-known, holds-total, checked-holds, count-is, number-passed, number-pass}
 use Rattle.rct_edit.specs.Edit.{mostLinks, bare, withLink, withNext, written, fresh, lengthRow, bodyRow, countRow, roomRows, roomVerdict, editVerdict, replaceVerdict, appendVerdict, makeVerdict, Outcome, done, replaced, appended, made}
 use Rattle.rct_edit.proofs.Records.{with-short, next-short, with-fits, next-fits}
 use Rattle.rct_edit.proofs.Outcomes.{Roomy, room-passed}
@@ -113,13 +113,12 @@ made-refused xs v s r = done-refused (makeVerdict (length xs) v s) r _ _ xs
 written-stepped : (s s′ : Section) (xs : List ℕ) → Holds s xs → Fits checkedDemands s′ → fullLength s′ ≤ length xs → Stepped s′ (written xs s′) xs (done Fine (fullLength s′) (written xs s′) xs)
 unfolding done written
 written-stepped s s′ xs h f r =
-    let w = holds-known s xs h in
-    let t : totalOf xs ≤ length xs = omega (arith, w .total, length-sealed s, length-append (sealed s) (h .rest), ap length (h .is)) in
+    let t : totalOf xs ≤ length xs = omega (arith, holds-total s xs h, length-sealed s, length-append (sealed s) (h .rest), ap length (holds-sealed s xs h)) in
     record {
       verdict = refl;
       total = refl;
       buffer = refl;
-      holds = record { fits = f; rest = _; is = refl };
+      holds = sealed-holds s′ _ f;
       size = simp (length-append, length-sealed s′, length-replicate, length-drop) (omega arith);
     }
 
@@ -208,7 +207,7 @@ module _ (v : Verdict) (h : RctHeader) (b : Block) (good : v ≡ Fine → RctHea
         verdict = refl;
         total = refl;
         buffer = refl;
-        holds = record { fits = record { header = f .0; count = omega arith; links = tt; loop = f .1; fits = c .room-for .fit }; rest = _; is = refl };
+        holds = sealed-holds (bare h b) _ (record { header = f .0; count = omega arith; links = tt; loop = f .1; fits = c .room-for .fit });
         size = simp (length-append, length-sealed (bare h b), length-drop) (omega (arith, c .room-for .enough));
       })
 

@@ -16,7 +16,7 @@ use Rattle.frame.specs.Reading.{totalOf}
 use Rattle.rct.specs.declared.RctHeader.{RctHeader}
 use Rattle.rct.specs.Syntax.{Section, fullLength, sealed, RctHeaderFits}
 use Rattle.rct.specs.Reading.{countAt, sectionAt, checked}
-use Rattle.rct.proofs.Checked.{length-sealed, Known, holds-known, count-is}
+use Rattle.rct.proofs.Checked.{length-sealed, Known, holds-known, holds-total, count-is}
 use Rattle.rct_edit.specs.Edit.{filler, bare, withLink, withNext, written, fresh, Outcome, replaced, appended, made}
 use Rattle.rct_edit.proofs.Records.{with-named, with-others, length-with, next-last, next-others, length-next}
 use Rattle.rct_edit.proofs.Calls.{Stepped, replaced-stepped, appended-stepped, made-stepped}
@@ -30,7 +30,7 @@ pub record ReadsBack (s : Section) (o : Outcome) : Type 0 where
 stepped-reads : (s : Section) (new old : List ℕ) (o : Outcome) → Stepped s new old o → ReadsBack s o
 stepped-reads s new old o st =
     let k : Known s (o .buffer) = holds-known s (o .buffer) (st .holds) in
-    record { passed = k .passed; same = k .same; total = k .total ∙ sym (st .total) }
+    record { passed = k .passed; same = k .same; total = holds-total s (o .buffer) (st .holds) ∙ sym (st .total) }
 
 pub made-back : (xs : List ℕ) (v : Verdict) (h : RctHeader) (b : Block) → (v ≡ Fine → RctHeaderFits h × BlockFits b) → made xs v (bare h b) .verdict ≡ Fine
     → ReadsBack (bare h b) (made xs v (bare h b))

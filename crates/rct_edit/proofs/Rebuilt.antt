@@ -17,7 +17,7 @@ use Rattle.rct.specs.Syntax.{Section, linksBytes, sectionLength, fullLength, se
 use Rattle.rct.specs.Reading.{sectionAt, reading, plain}
 use Rattle.rct.proofs.Links.{links-append}
 use Rattle.rct.proofs.Accepted.{length-payload, accepted, length-is, rebuild, accepted-fits}
-use Rattle.rct.proofs.Checked.{within-iff, length-sealed, Holds, holds-known}
+use Rattle.rct.proofs.Checked.{within-iff, length-sealed, Holds, sealed-holds, holds-total}
 use Rattle.rct_edit.specs.Edit.{withLinks, bare, withNext, written, fresh, made, appended}
 use Rattle.rct_edit.proofs.Calls.{Stepped, CanAppend, append-stepped, make-stepped}
 
@@ -68,7 +68,7 @@ length-front s zs a h = simp (length-append, length-sealed (withLinks s a), leng
 
 front-holds : (s : Section) (zs : List ℕ) (a : List Link) → Fits checkedDemands (withLinks s a) → Holds (withLinks s a) (front s zs a)
 unfolding fresh
-front-holds s zs a f = record { fits = f; rest = drop (fullLength (withLinks s a)) zs; is = refl }
+front-holds s zs a f = sealed-holds (withLinks s a) (drop (fullLength (withLinks s a)) zs) f
 
 behind : (p zs : List ℕ) (n m : ℕ) → length p ≡ n → n ≤ m → drop m (p ++ drop n zs) ≡ drop m zs
 behind p zs n m l h =
@@ -80,7 +80,7 @@ behind p zs n m l h =
 grows : (s : Section) (zs : List ℕ) (a b : List Link) → Fits checkedDemands (withLinks s a) → written (front s zs a) (withLinks s (a ++ b)) ≡ front s zs (a ++ b)
 unfolding written fresh
 grows s zs a b f =
-    let t : totalOf (front s zs a) ≡ fullLength (withLinks s a) = holds-known (withLinks s a) (front s zs a) (front-holds s zs a f) .total in
+    let t : totalOf (front s zs a) ≡ fullLength (withLinks s a) = holds-total (withLinks s a) (front s zs a) (front-holds s zs a f) in
     let u : fullLength (withLinks s a) ≤ fullLength (withLinks s (a ++ b)) = omega (arith, prefix-length s a b) in
     let none : totalOf (front s zs a) - fullLength (withLinks s (a ++ b)) ≡ 0 = omega arith in
     let most : max (totalOf (front s zs a)) (fullLength (withLinks s (a ++ b))) ≡ fullLength (withLinks s (a ++ b)) = omega arith in

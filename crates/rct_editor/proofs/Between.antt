@@ -13,7 +13,7 @@ use Rattle.wire.specs.Verdict.{bad, _▷_}
 use Rattle.wire.specs.declared.verdict.Refusal.{Refusal}
 use Rattle.wire.specs.declared.verdict.Verdict.{Verdict}
 use Rattle.wire.specs.declared.verdict.Verdict.the-variants.{Fine, Refused}
-use Rattle.wire.proofs.Verdicts.{then-fine, go-on, stop, refused-then, refused-row, fine-row}
+use Rattle.wire.proofs.Verdicts.{go-on, stop, refused-then, refused-row, fine-row}
 use Rattle.wire.proofs.Words.{length-bytes32}
 use Rattle.wire.specs.Refusals.{noSuchNumber, noMoreLinks}
 use Rattle.crc.specs.Crc.{crcOf}
@@ -22,11 +22,12 @@ use Rattle.link.specs.Records.{linkOf}
 use Rattle.link.specs.declared.LinkInfo.{LinkInfo}
 use Rattle.link_draft.specs.Checks.{checkLink}
 use Rattle.link_draft.specs.Lengths.{linkLength}
-use Rattle.frame.proofs.Opening.{Opened, opened-fine}
+use Rattle.frame.proofs.Opening.{Opened}
+use Rattle.frame.proofs.Readings.{reading-opened, checked-reading}
 use Rattle.frame.specs.Syntax.{crcLength, uncounted}
-use Rattle.frame.specs.Reading.{checkedDemands, opened, payloadEnd, totalOf}
+use Rattle.frame.specs.Reading.{checkedDemands, payloadEnd, totalOf}
 use Rattle.rct.specs.Syntax.{rct, Section, sectionLength, fullLength}
-use Rattle.rct.specs.Reading.{numberRow, countAt, loopPlace, sectionAt, reading, checked}
+use Rattle.rct.specs.Reading.{numberRow, countAt, loopPlace, sectionAt, payloadVerdict, reading, checked}
 use Rattle.rct.proofs.Checked.{count-is, number-pass}
 use Rattle.rct_walker.proofs.Walks.{SpanOf}
 use Rattle.rct_edit.specs.Edit.{mostLinks, filler, withLink, withNext, written, countRow, roomRows, editVerdict, replaceVerdict, appendVerdict, Outcome, done, replaced, appended}
@@ -127,12 +128,10 @@ module _ (xs : List ℕ) (o : Opened rct checkedDemands xs) (t : List ℕ) (k : 
 -- ---- what the checked reading found
 
 read-fine : (xs : List ℕ) → checked xs ≡ Fine → reading checkedDemands xs ≡ Fine
-unfolding checked
-read-fine xs e = then-fine (reading checkedDemands xs) _ e .0
+read-fine = checked-reading rct payloadVerdict
 
 pub frame-fine : (xs : List ℕ) → checked xs ≡ Fine → Opened rct checkedDemands xs
-unfolding reading
-frame-fine xs e = opened-fine rct checkedDemands xs (then-fine (opened rct checkedDemands xs) _ (read-fine xs e) .0)
+frame-fine xs e = reading-opened rct payloadVerdict checkedDemands xs (read-fine xs e)
 
 splice-spot : (xs : List ℕ) (s : Section) (l : Link) (p q : ℕ) → Opened rct checkedDemands xs → Splice xs s l p q → Spot xs p q
 splice-spot xs s l p q o sp = record { large = o .large; within = o .within; limited = omega (arith, o .limited); low = sp .low; ordered = sp .ordered; inside = sp .inside }
@@ -153,7 +152,7 @@ module _ (xs : List ℕ) (t : List ℕ) (k : LinkInfo) where
   -- the loop stands at q
   module _ (c : checked xs ≡ Fine) (q : ℕ) (at : loopPlace xs ≡ q) (b : Bytes xs) where
     behind : Splice xs (withNext (sectionAt xs) (linkOf t k)) (linkOf t k) q q
-    behind = rw (← at) (append-splice checkedDemands xs b (read-fine xs (c)) (omega arith) (linkOf t k))
+    behind = rw (← at) (append-splice checkedDemands xs b (read-fine xs c) (omega arith) (linkOf t k))
 
     pub append-spot : Spot xs q q
     append-spot = splice-spot xs _ (linkOf t k) _ _ (frame-fine xs c) behind
@@ -183,7 +182,7 @@ module _ (xs : List ℕ) (number : ℕ) (t : List ℕ) (k : LinkInfo) where
   -- there is such a link, and its entry stands from p to q
   module _ (c : checked xs ≡ Fine) (p q : ℕ) (f : SpanOf xs number p q) (b : Bytes xs) (h : number < countAt xs) where
     inside : Splice xs (withLink (sectionAt xs) number (linkOf t k)) (linkOf t k) p q
-    inside = rw (← f .start, ← f .end) (replace-splice checkedDemands xs b (read-fine xs (c)) (omega arith) number (linkOf t k) h)
+    inside = rw (← f .start, ← f .end) (replace-splice checkedDemands xs b (read-fine xs c) (omega arith) number (linkOf t k) h)
 
     pub replace-spot : Spot xs p q
     replace-spot = splice-spot xs _ (linkOf t k) _ _ (frame-fine xs c) inside

@@ -18,16 +18,16 @@ use Rattle.link.specs.Answers.{linkAnswer}
 use Rattle.link.specs.declared.LinkInfo.{LinkInfo}
 use Rattle.link.specs.declared.MediaUri.the-variants as uri
 use Rattle.link.specs.declared.LinkLocator.the-variants as locator
-use Rattle.frame.specs.Reading.{plainDemands, opened}
+use Rattle.frame.specs.Reading.{plainDemands, opened, readingBy}
 use Rattle.frame.proofs.Opening.{opened-short}
+use Rattle.frame.proofs.Readings.{reading-closed}
 use Rattle.rct.specs.Syntax.{rct}
-use Rattle.rct.specs.Reading.{entryVerdict, payloadVerdict, reading, plain, numberRow}
+use Rattle.rct.specs.Reading.{entryVerdict, payloadVerdict, plain, numberRow}
 use Rattle.rct.specs.declared.RctHeader.{RctHeader}
 use Rattle.link.specs.declared.LinkItem.{LinkItem}
 use Rattle.rct_reader.specs.Sections.{sectionRead}
 use Rattle.rct_reader.specs.declared.RctSection.{RctSection}
 use Rattle.rct_reader.proofs.Nothing.{refusedSection}
-use Rattle.rct_walker.proofs.Walks.{reading-closed}
 use Rattle.rct_links.specs.Links.{linkRows, numberedLink}
 
 -- the answer of the plain reading
@@ -99,7 +99,7 @@ linkS1 =
 
 short : (xs : List ℕ) → length xs ≡ 16 → read xs ≡ refusal 1 17 16
 unfolding sectionRead
-short xs e = ap (λ v. sectionRead v xs) (reading-closed plainDemands xs _ (opened-short rct plainDemands xs (omega arith))) ∙ ap (λ n. refusal 1 17 n) e
+short xs e = ap (λ v. sectionRead v xs) (reading-closed rct payloadVerdict plainDemands xs _ (opened-short rct plainDemands xs (omega arith))) ∙ ap (λ n. refusal 1 17 n) e
 
 module _ (a b c d : ℕ) where
   -- S0, by its first byte and the low byte of its length
@@ -128,7 +128,7 @@ module _ (a b c d : ℕ) where
     pub l-cut : readLocator (take 7 bytesL) ≡ cut 8 7
 
   pub rows : Rows
-  unfolding sectionRead reading payloadVerdict entryVerdict opened linkRows numberRow numberedLink linkAnswer infoAt fieldsAt itemInfos lastVerdict blockRows bodyVerdict frontVerdict uriVerdict locatorRows countVerdict restVerdict itemVerdict itemsVerdict refuse _▷_
+  unfolding sectionRead readingBy payloadVerdict entryVerdict opened linkRows numberRow numberedLink linkAnswer infoAt fieldsAt itemInfos lastVerdict blockRows bodyVerdict frontVerdict uriVerdict locatorRows countVerdict restVerdict itemVerdict itemsVerdict refuse _▷_
   rows =
       record {
         empty = refl;

@@ -7,21 +7,18 @@ use native.Mathlib.Omega.{arith}
 use mathlib.Core.List.{List}
 use lib.ListN.{take, drop}
 use borrow.Author.Tests.{le-leb, lt-leb}
-use Rattle.wire.specs.Lists.{Bytes}
-use Rattle.wire.specs.Lengths.{longest, lengthAt, blockEnd}
+use Rattle.wire.specs.Lengths.{lengthAt, blockEnd}
 use Rattle.wire.specs.Verdict.{reached, _▷_}
 use Rattle.wire.specs.declared.verdict.Refusal.{Refusal}
 use Rattle.wire.specs.declared.verdict.Verdict.{Verdict}
 use Rattle.wire.specs.declared.verdict.Verdict.the-variants.{Fine, Refused}
 use Rattle.wire.specs.declared.verdict.Reached.the-variants as reach
-use Rattle.wire.proofs.Blocks.{block-passed, length-short}
+use Rattle.wire.proofs.Blocks.{block-passed}
 use Rattle.wire.proofs.Verdicts.{then-fine, go-on, refused-then, then-assoc, reached-at}
 use Rattle.link.specs.Reading.{bodyVerdict}
-use Rattle.frame.specs.Reading.{payloadEnd, opened, checkedDemands, crcRow}
-use Rattle.frame.specs.declared.Demands.{Demands}
-use Rattle.frame.proofs.Opening.{Opened, opened-fine}
-use Rattle.rct.specs.Syntax.{headLength, rct}
-use Rattle.rct.specs.Reading.{bodyIn, after, countAt, linkPlace, loopPlace, entryRows, entryVerdict, linksVerdict, loopVerdict, payloadVerdict, reading, checked}
+use Rattle.frame.specs.Reading.{payloadEnd}
+use Rattle.rct.specs.Syntax.{headLength}
+use Rattle.rct.specs.Reading.{bodyIn, after, countAt, linkPlace, loopPlace, entryRows, entryVerdict, linksVerdict, loopVerdict, payloadVerdict}
 use Rattle.rct.proofs.Links.{entry-passed, after-sum, links-sum}
 use Rattle.rct_walker.specs.Places.{spanBy, linkSpan, walked}
 use Rattle.rct_walker.specs.Stages.{spanned, restVerdict}
@@ -176,34 +173,6 @@ module _ (n : ℕ) (xs : List ℕ) (e p : ℕ) where
   pub rest-loop : linksVerdict n xs e p ≡ Fine → restVerdict n xs e p ≡ loopVerdict xs e (after n xs p)
   unfolding restVerdict
   rest-loop v = go-on _ _ v
-
--- ---- the rows of a whole section
-
-module _ (d : Demands) (xs : List ℕ) where
-  pub reading-closed : (r : Refusal) → opened rct d xs ≡ Refused r → reading d xs ≡ Refused r
-  unfolding reading
-  reading-closed r v = refused-then _ _ r v
-
-  pub reading-payload : opened rct d xs ≡ Fine → payloadVerdict xs ≡ reading d xs
-  unfolding reading
-  reading-payload v = sym (go-on _ _ v)
-
-  pub reading-opened : reading d xs ≡ Fine → Opened rct d xs
-  unfolding reading
-  reading-opened v = opened-fine rct d xs (then-fine (opened rct d xs) _ v .0)
-
-module _ (xs : List ℕ) where
-  pub checked-stop : (r : Refusal) → reading checkedDemands xs ≡ Refused r → checked xs ≡ Refused r
-  unfolding checked
-  checked-stop r v = refused-then _ _ r v
-
-  pub checked-crc : reading checkedDemands xs ≡ Fine → checked xs ≡ crcRow xs (payloadEnd xs)
-  unfolding checked
-  checked-crc v = go-on _ _ v
-
-  pub checked-reading : checked xs ≡ Fine → reading checkedDemands xs ≡ Fine
-  unfolding checked
-  checked-reading v = then-fine _ _ v .0
 
 -- ---- the numbers of links before link k and of its own
 

@@ -5,7 +5,9 @@ use native.Mathlib.Omega.{arith}
 use Rattle.frame.specs.Syntax.{crcLength}
 use Rattle.frame.specs.Reading.{payloadEnd, checkedDemands}
 use Rattle.frame.proofs.Endings.{crc-room}
-use Rattle.rct_walker.proofs.Walks.{reading-opened, checked-stop, checked-crc}
+use Rattle.frame.proofs.Readings.{reading-opened, checked-stop, checked-crc}
+use Rattle.rct.specs.Syntax.{rct}
+use Rattle.rct.specs.Reading.{payloadVerdict}
 use Rattle.rct_walker.proofs.Loops.{loop-had, loop-not, had-loop, not-loop}
 use borrow.Author.Needs.{needs}
 use Rattle.rct_walker.proofs.checked_loop.Statement.{statement}
@@ -45,9 +47,9 @@ returns c =
     let check-crc = c .before .before .check-crc in
     let s = args .s .now in
     let g = loop-had _ _ _ _ _ (sym (rw (checked .ensures) at (read-loop .ensures)) ∙ read .given .1) in
-    let o = reading-opened checkedDemands s (g .fine) in
+    let o = reading-opened rct payloadVerdict checkedDemands s (g .fine) in
     let e : payload-end .result ≡ payloadEnd s = payload-end .ensures ∙ ap (λ n. n - crcLength) (sym (g .total)) in
-    let v = checked-crc s (g .fine) ∙ sym (crc-room s (payloadEnd s) (omega arith)) ∙ sym (rw e at (check-crc .ensures)) ∙ c .enum-told .given .1 in
+    let v = checked-crc rct payloadVerdict s (g .fine) ∙ sym (crc-room s (payloadEnd s) (omega arith)) ∙ sym (rw e at (check-crc .ensures)) ∙ c .enum-told .given .1 in
     had-loop _ s _ _ _ (record { fine = v; total = g .total; count = g .count; place = g .place })
 
 returns-2 : tie.Need-returns-2
@@ -60,16 +62,16 @@ returns-2 c =
     let check-crc = c .before .before .before .check-crc in
     let s = args .s .now in
     let g = loop-had _ _ _ _ _ (sym (rw (checked .ensures) at (read-loop .ensures)) ∙ read .given .1) in
-    let o = reading-opened checkedDemands s (g .fine) in
+    let o = reading-opened rct payloadVerdict checkedDemands s (g .fine) in
     let e : payload-end .result ≡ payloadEnd s = payload-end .ensures ∙ ap (λ n. n - crcLength) (sym (g .total)) in
-    not-loop _ s _ (checked-crc s (g .fine) ∙ sym (crc-room s (payloadEnd s) (omega arith)) ∙ sym (rw e at (check-crc .ensures)) ∙ c .before .v .given .1)
+    not-loop _ s _ (checked-crc rct payloadVerdict s (g .fine) ∙ sym (crc-room s (payloadEnd s) (omega arith)) ∙ sym (rw e at (check-crc .ensures)) ∙ c .before .v .given .1)
 
 returns-3 : tie.Need-returns-3
 returns-3 c =
     let args = c .before .before .before .before .before .before .args in
     let checked = c .before .before .before .before .checked in
     let read-loop = c .before .before .before .read-loop in
-    not-loop _ (args .s .now) _ (checked-stop (args .s .now) _ (loop-not _ _ _ (sym (rw (checked .ensures) at (read-loop .ensures)) ∙ c .before .read2 .given .1)))
+    not-loop _ (args .s .now) _ (checked-stop rct payloadVerdict (args .s .now) _ (loop-not _ _ _ (sym (rw (checked .ensures) at (read-loop .ensures)) ∙ c .before .read2 .given .1)))
 
 pub checked-loop-spec : {M : Type 1} → statement M
 checked-loop-spec =

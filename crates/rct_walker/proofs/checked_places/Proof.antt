@@ -5,8 +5,11 @@ use native.Mathlib.Omega.{arith}
 use Rattle.frame.specs.Syntax.{crcLength}
 use Rattle.frame.specs.Reading.{payloadEnd, checkedDemands}
 use Rattle.frame.proofs.Endings.{crc-room}
+use Rattle.frame.proofs.Readings.{reading-opened, checked-stop, checked-crc}
+use Rattle.rct.specs.Syntax.{rct}
+use Rattle.rct.specs.Reading.{payloadVerdict}
 use Rattle.rct_walker.specs.declared.RctPlaces.{RctPlaces}
-use Rattle.rct_walker.proofs.Walks.{walked-read, walked-refused, read-walked, refused-walked, reading-opened, checked-stop, checked-crc}
+use Rattle.rct_walker.proofs.Walks.{walked-read, walked-refused, read-walked, refused-walked}
 use borrow.Author.Needs.{needs}
 use Rattle.rct_walker.proofs.checked_places.Statement.{statement}
 use Rattle.rct_walker.proofs.checked_places.Tie as tie
@@ -45,9 +48,9 @@ returns c =
     let check-crc = c .before .before .check-crc in
     let s = args .s .now in
     let g = walked-read _ _ _ (sym (rw (checked .ensures) at (read-places .ensures)) ∙ read .given .1) in
-    let o = reading-opened checkedDemands s (g .0) in
+    let o = reading-opened rct payloadVerdict checkedDemands s (g .0) in
     let e : payload-end .result ≡ payloadEnd s = payload-end .ensures ∙ ap (λ (p : RctPlaces). p .total - crcLength) (sym (g .1)) in
-    read-walked _ _ _ (checked-crc s (g .0) ∙ sym (crc-room s (payloadEnd s) (omega arith)) ∙ sym (rw e at (check-crc .ensures)) ∙ c .enum-told .given .1) (g .1)
+    read-walked _ _ _ (checked-crc rct payloadVerdict s (g .0) ∙ sym (crc-room s (payloadEnd s) (omega arith)) ∙ sym (rw e at (check-crc .ensures)) ∙ c .enum-told .given .1) (g .1)
 
 returns-2 : tie.Need-returns-2
 returns-2 c =
@@ -59,16 +62,16 @@ returns-2 c =
     let check-crc = c .before .before .before .check-crc in
     let s = args .s .now in
     let g = walked-read _ _ _ (sym (rw (checked .ensures) at (read-places .ensures)) ∙ read .given .1) in
-    let o = reading-opened checkedDemands s (g .0) in
+    let o = reading-opened rct payloadVerdict checkedDemands s (g .0) in
     let e : payload-end .result ≡ payloadEnd s = payload-end .ensures ∙ ap (λ (p : RctPlaces). p .total - crcLength) (sym (g .1)) in
-    refused-walked _ _ _ (checked-crc s (g .0) ∙ sym (crc-room s (payloadEnd s) (omega arith)) ∙ sym (rw e at (check-crc .ensures)) ∙ c .before .v .given .1)
+    refused-walked _ _ _ (checked-crc rct payloadVerdict s (g .0) ∙ sym (crc-room s (payloadEnd s) (omega arith)) ∙ sym (rw e at (check-crc .ensures)) ∙ c .before .v .given .1)
 
 returns-3 : tie.Need-returns-3
 returns-3 c =
     let args = c .before .before .before .before .before .before .args in
     let checked = c .before .before .before .before .checked in
     let read-places = c .before .before .before .read-places in
-    refused-walked _ _ _ (checked-stop (args .s .now) _ (walked-refused _ _ _ (sym (rw (checked .ensures) at (read-places .ensures)) ∙ c .before .read2 .given .1)))
+    refused-walked _ _ _ (checked-stop rct payloadVerdict (args .s .now) _ (walked-refused _ _ _ (sym (rw (checked .ensures) at (read-places .ensures)) ∙ c .before .read2 .given .1)))
 
 pub checked-places-spec : {M : Type 1} → statement M
 checked-places-spec =

@@ -8,8 +8,10 @@ use Rattle.wire.proofs.Verdicts.{reached-at, reached-refused}
 use Rattle.frame.specs.Syntax.{crcLength}
 use Rattle.frame.specs.Reading.{payloadEnd}
 use Rattle.frame.proofs.Opening.{opened-fine}
+use Rattle.frame.proofs.Readings.{reading-closed, reading-rows}
 use Rattle.rct.specs.Syntax.{rct}
-use Rattle.rct_walker.proofs.Walks.{payload-is, reading-closed, reading-payload}
+use Rattle.rct.specs.Reading.{payloadVerdict}
+use Rattle.rct_walker.proofs.Walks.{payload-is}
 use Rattle.rct_walker.proofs.Loops.{had-loop, not-loop}
 use borrow.Author.Needs.{needs}
 use Rattle.rct_walker.proofs.walk.read_loop.Statement.{statement}
@@ -81,7 +83,7 @@ returns c =
     let g = reached-at _ _ _ (sym (rw (table .ensures) at (opened-at .ensures)) ∙ front .given .1) in
     let e : payload-end .result ≡ payloadEnd s = payload-end .ensures ∙ ap (λ n. n - crcLength) (sym (g .1)) in
     let h = reached-at _ _ _ (sym (rw (e, head .ensures, wide .ensures .0) at (past-rest .ensures)) ∙ c .before .rest .given .1) in
-    had-loop _ s _ _ _ (record { fine = sym (reading-payload _ s (g .0)) ∙ sym (payload-is s) ∙ h .0; total = g .1; count = sym (wide .ensures .0); place = h .1 })
+    had-loop _ s _ _ _ (record { fine = sym (reading-rows rct payloadVerdict _ s (g .0)) ∙ sym (payload-is s) ∙ h .0; total = g .1; count = sym (wide .ensures .0); place = h .1 })
 
 returns-2 : tie.Need-returns-2
 returns-2 c =
@@ -97,14 +99,14 @@ returns-2 c =
     let g = reached-at _ _ _ (sym (rw (table .ensures) at (opened-at .ensures)) ∙ front .given .1) in
     let e : payload-end .result ≡ payloadEnd s = payload-end .ensures ∙ ap (λ n. n - crcLength) (sym (g .1)) in
     let h = reached-refused _ _ _ (sym (rw (e, head .ensures, wide .ensures .0) at (past-rest .ensures)) ∙ c .before .rest2 .given .1) in
-    not-loop _ s _ (sym (reading-payload _ s (g .0)) ∙ sym (payload-is s) ∙ h)
+    not-loop _ s _ (sym (reading-rows rct payloadVerdict _ s (g .0)) ∙ sym (payload-is s) ∙ h)
 
 returns-3 : tie.Need-returns-3
 returns-3 c =
     let args = c .before .before .before .before .before .before .args in
     let table = c .before .before .before .before .table in
     let opened-at = c .before .before .before .«open» in
-    not-loop _ (args .s .now) _ (reading-closed _ (args .s .now) _ (reached-refused _ _ _ (sym (rw (table .ensures) at (opened-at .ensures)) ∙ c .before .front2 .given .1)))
+    not-loop _ (args .s .now) _ (reading-closed rct payloadVerdict _ (args .s .now) _ (reached-refused _ _ _ (sym (rw (table .ensures) at (opened-at .ensures)) ∙ c .before .front2 .given .1)))
 
 pub read-loop-spec : {M : Type 1} → statement M
 read-loop-spec =

@@ -5,8 +5,10 @@ use Rattle.wire.proofs.Lists.{bytes-known}
 use Rattle.wire.proofs.Blocks.{length-short}
 use Rattle.wire.proofs.Verdicts.{reached-at, reached-refused}
 use Rattle.frame.proofs.Opening.{opened-fine}
+use Rattle.frame.proofs.Readings.{reading-closed, reading-rows}
 use Rattle.rct.specs.Syntax.{rct}
-use Rattle.rct_walker.proofs.Walks.{refused-walked, reading-closed, reading-payload}
+use Rattle.rct.specs.Reading.{payloadVerdict}
+use Rattle.rct_walker.proofs.Walks.{refused-walked}
 use borrow.Author.Needs.{needs}
 use Rattle.rct_walker.proofs.walk.read_places.Statement.{statement}
 use Rattle.rct_walker.proofs.walk.read_places.Tie as tie
@@ -42,14 +44,14 @@ returns c =
     let front = c .before .before .front in
     let args = c .before .before .before .before .before .before .before .args in
     let g = reached-at _ _ _ (sym (rw (table .ensures) at (opened-at .ensures)) ∙ front .given .1) in
-    rw (← reading-payload _ (args .s .now) (g .0)) (c .past-payload .ensures)
+    rw (← reading-rows rct payloadVerdict _ (args .s .now) (g .0)) (c .past-payload .ensures)
 
 returns-2 : tie.Need-returns-2
 returns-2 c =
     let args = c .before .before .before .before .before .before .args in
     let table = c .before .before .before .before .table in
     let opened-at = c .before .before .before .«open» in
-    refused-walked _ _ _ (reading-closed _ (args .s .now) _ (reached-refused _ _ _ (sym (rw (table .ensures) at (opened-at .ensures)) ∙ c .before .front2 .given .1)))
+    refused-walked _ _ _ (reading-closed rct payloadVerdict _ (args .s .now) _ (reached-refused _ _ _ (sym (rw (table .ensures) at (opened-at .ensures)) ∙ c .before .front2 .given .1)))
 
 pub read-places-spec : {M : Type 1} → statement M
 read-places-spec =

@@ -3,7 +3,6 @@
 use console::Short;
 use console::print::put_refusal;
 use console::print::say;
-use desk_records::link_words::NUMBER;
 use desk_records::link_words::put_before_items;
 use desk_records::link_words::put_behind_items;
 use desk_records::link_words::put_item;
@@ -16,6 +15,9 @@ use link::reading::LinkRead;
 use rct::RctHeader;
 use rct_reader::RctSection;
 use rct_walker::entry::EntryRead;
+use script::calls::NUMBER;
+use script::calls::NUMBERS;
+use script::calls::OK;
 use script::calls::call_of;
 use script::calls::is_understood;
 use script::read::read_short;
@@ -30,11 +32,6 @@ const CALLS: [Short; 4] = [
     *b"link____________________",
     *b"item____________________",
 ];
-
-// What an item is asked by.
-const NUMBERS: Short = *b" # #____________________";
-
-const OK: Short = *b"ok______________________";
 
 // The item at a place. The answer: the place behind it.
 fn put_item_at(s: &[u8], at: u32) -> u32 {

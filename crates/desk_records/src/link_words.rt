@@ -23,9 +23,6 @@ use script::read::read;
 use script::read::read_short;
 use script::scan::Scan;
 
-// What a link is asked by.
-pub const NUMBER: Short = *b" #______________________";
-
 // What comes before the URI, before the locator, between it and the number of items, and behind the items.
 const HEAD: [u8; 63] = *b" link lres=# type=# tres=# related=# term=# group=# prec=# uri=";
 

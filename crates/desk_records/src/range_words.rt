@@ -37,7 +37,12 @@ pub fn read_range(line: &[u8], s: Scan) -> RangeScan {
 pub fn put_range(s: &[u8], range: Range) {
     let start = range.start as usize;
     let length = range.length as usize;
-    put_hex(handed(s, Span { start, length }));
+    put_span(s, Span { start, length });
+}
+
+// The same where a record has it as a span.
+pub fn put_span(s: &[u8], span: Span) {
+    put_hex(handed(s, span));
     say(START);
-    put_number(start);
+    put_number(span.start);
 }

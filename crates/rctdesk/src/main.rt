@@ -46,6 +46,9 @@ fn dispatch(line: &[u8], kept: usize, b: &mut [u8], text: &[u8]) {
     if desk_reads::carry_out(line, &b[..]) {
         return;
     }
+    if desk_rnt::carry_out(line, &b[..]) {
+        return;
+    }
     if desk_edits::carry_out(line, b, text) {
         return;
     }

@@ -8,6 +8,14 @@ use console::print::say;
 
 const ERROR: Short = *b"error column ___________";
 
+// What a record is asked by: its number, or that of the record which it is in and its own.
+pub const NUMBER: Short = *b" #______________________";
+
+pub const NUMBERS: Short = *b" # #____________________";
+
+// What the answer to a call that reads starts with where it is not refused.
+pub const OK: Short = *b"ok______________________";
+
 // Which of some calls a line has, the first being 1, or 0 for none of them, and the place behind its name.
 pub struct Call {
     pub number: usize,

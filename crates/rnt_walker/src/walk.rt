@@ -88,7 +88,13 @@ pub(crate) fn past_head(s: &[u8], e: usize, p: usize) -> Headed
     match v {
         Verdict::Fine => {
             let end = start + field.length;
-            let named = past_named(s, end, start, Refusal::PROVIDER_NAME_CUT, Refusal::PROVIDER_DESCRIPTORS_CUT);
+            let named = past_named(
+                s,
+                end,
+                start,
+                Refusal::PROVIDER_NAME_CUT,
+                Refusal::PROVIDER_DESCRIPTORS_CUT,
+            );
             match named {
                 Reached::At(first) => Headed::At { first, end },
                 Reached::Refused(r) => Headed::Refused(r),
@@ -164,7 +170,14 @@ fn past_provider(s: &[u8], e: usize, p: usize, number: usize) -> Passed
 }
 
 // Over the providers of a section of `total` bytes, the first of which stands at `at`, up to the payload's end `e`.
-fn past_providers(s: &[u8], total: usize, e: usize, at: usize, provider: usize, authority: usize) -> RntWalked
+fn past_providers(
+    s: &[u8],
+    total: usize,
+    e: usize,
+    at: usize,
+    provider: usize,
+    authority: usize,
+) -> RntWalked
     requires { ⌜ ((total ≡ totalOf (now s)) × ((e ≡ payloadEnd (now s)) × (at ≡ blockEnd (now s) commonPlace))) × ((at ≤ e) × ((e ≤ length (now s)) × (e ≤ 65535))) ⌝ }
     ensures { λ r. ⌜ r ≡ walked (providersVerdict (now (s .entry))) (placesAt (now (s .entry)) provider authority) ⌝ }
 {
@@ -214,7 +227,12 @@ fn past_payload(s: &[u8], total: usize, provider: usize, authority: usize) -> Rn
 }
 
 // The whole section, by what a reading demands.
-pub(crate) fn read_places(s: &[u8], demands: Demands, provider: usize, authority: usize) -> RntWalked
+pub(crate) fn read_places(
+    s: &[u8],
+    demands: Demands,
+    provider: usize,
+    authority: usize,
+) -> RntWalked
     ensures { λ r. ⌜ r ≡ walked (reading demands (now (s .entry))) (placesAt (now (s .entry)) provider authority) ⌝ }
 {
     let front = frame::open(s, RntHeader::table(), demands);

@@ -65,11 +65,16 @@ loop-again c =
     let inv = loop .inv in
     let here = loop-test .taken in
     let g = passed-at _ _ _ _ _ _ _ (sym (past-provider .ensures) ∙ step .given .1) in
-    let w = provider-within s _ _ (g .1 .fine) in
-    (walk-on (blockEnd s) (block-up s) _ _ _ _ _ _ (inv .0) here (g .1 .fine) (g .0) (omega (arith, g .0)),
-    (rw (found-at .ensures) (place-on (blockEnd s) (block-up s) _ _ _ _ _ _ _ (inv .1 .0) here (g .0)),
-    (rw (c .before .found-at2 .ensures) (told-on (blockEnd s) (block-up s) _ _ (authorityCount s) _ _ _ _ _ _ (inv .1 .1 .0) here (g .0) (g .1 .number)),
-    rw (c .found-at3 .ensures) (told-on (blockEnd s) (block-up s) _ _ (λ q. authorityPlace s q (args .authority)) _ _ _ _ _ _ (inv .1 .1 .1) here (g .0) (g .1 .place)))))
+    let w = provider-within s _ _ (g .1 .fine) in (
+      walk-on (blockEnd s) (block-up s) _ _ _ _ _ _ (inv .0) here (g .1 .fine) (g .0) (omega (arith, g .0)),
+      (
+        rw (found-at .ensures) (place-on (blockEnd s) (block-up s) _ _ _ _ _ _ _ (inv .1 .0) here (g .0)),
+        (
+          rw (c .before .found-at2 .ensures) (told-on (blockEnd s) (block-up s) _ _ (authorityCount s) _ _ _ _ _ _ (inv .1 .1 .0) here (g .0) (g .1 .number)),
+          rw (c .found-at3 .ensures) (told-on (blockEnd s) (block-up s) _ _ (λ q. authorityPlace s q (args .authority)) _ _ _ _ _ _ (inv .1 .1 .1) here (g .0) (g .1 .place)),
+        ),
+      ),
+    )
 
 enum-known-step-2 : tie.Need-enum-known-step-2 Inv-loop μ-loop
 enum-known-step-2 c = search needs
@@ -94,11 +99,13 @@ returns-2 c =
     let over = c .loop-test .left in
     let pre = pre .0 in
     read-walked _ _ _ (rw (pre .1 .0, pre .1 .1) at (walk-fine (blockEnd s) (block-up s) _ _ _ _ _ (inv .0) over))
-    (λ i. record { total = sym (pre .0) i;
-    providers = (rw (pre .1 .0, pre .1 .1) at (walk-number (blockEnd s) (block-up s) _ _ _ _ _ (inv .0) over)) i;
-    «provider_at» = (rw (pre .1 .0, pre .1 .1) at (place-end (blockEnd s) (block-up s) _ _ _ _ _ _ (inv .1 .0) over)) i;
-    authorities = (rw (pre .1 .0, pre .1 .1) at (told-end (blockEnd s) (block-up s) _ _ (authorityCount s) _ _ _ _ (inv .1 .1 .0) over)) i;
-    «authority_at» = (rw (pre .1 .0, pre .1 .1) at (told-end (blockEnd s) (block-up s) _ _ (λ q. authorityPlace s q (args .authority)) _ _ _ _ (inv .1 .1 .1) over)) i })
+    (λ i. record {
+      total = sym (pre .0) i;
+      providers = (rw (pre .1 .0, pre .1 .1) at (walk-number (blockEnd s) (block-up s) _ _ _ _ _ (inv .0) over)) i;
+      «provider_at» = (rw (pre .1 .0, pre .1 .1) at (place-end (blockEnd s) (block-up s) _ _ _ _ _ _ (inv .1 .0) over)) i;
+      authorities = (rw (pre .1 .0, pre .1 .1) at (told-end (blockEnd s) (block-up s) _ _ (authorityCount s) _ _ _ _ (inv .1 .1 .0) over)) i;
+      «authority_at» = (rw (pre .1 .0, pre .1 .1) at (told-end (blockEnd s) (block-up s) _ _ (λ q. authorityPlace s q (args .authority)) _ _ _ _ (inv .1 .1 .1) over)) i;
+    })
 
 pub past-providers-spec : {M : Type 1} → statement M
 past-providers-spec =

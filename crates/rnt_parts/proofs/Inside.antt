@@ -1,0 +1,124 @@
+-- Each part lies in the section, also where there is none; and what it is.
+-- Assumes nothing.
+use mathlib.Core.Path.{_≡_, refl}
+use Prim.Native.Nat.{ℕ, _+_, _≤_}
+use native.Mathlib.Omega.{arith}
+use mathlib.Core.List.{List}
+use lib.ListN.{length, getD}
+use Rattle.wire.specs.Spans.{span, spanOf, spanIn}
+use Rattle.wire.specs.declared.spans.Span.{Span}
+use Rattle.wire.specs.declared.verdict.Refusal.{Refusal}
+use Rattle.wire.specs.declared.verdict.Verdict.{Verdict}
+use Rattle.wire.specs.declared.verdict.Verdict.the-variants.{Fine, Refused}
+use Rattle.wire.proofs.SpanLaws.{span-inside}
+use Rattle.frame.specs.Reading.{payloadEnd, plainDemands}
+use Rattle.rnt.specs.Syntax.{Authority, Provider}
+use Rattle.rnt.specs.Reading.{providerAt, sectionAt, plain, providerRows, authorityRows}
+use Rattle.rnt.proofs.Accepted.{accepted}
+use Rattle.rnt.proofs.Numbers.{provider-rows, authority-rows, provider-passed, authority-within, provider-is, authority-is}
+use Rattle.rnt_reader.specs.Sections.{sectionRead}
+use Rattle.rnt_providers.specs.Providers.{providerBy, authorityBy, numberedProvider, numberedAuthority}
+use Rattle.rnt_parts.specs.Parts.{commonOf, providerNameOf, providerDescriptorsOf, authorityNameOf, authorityDescriptorsOf, commonSpan, providerName, providerDescriptors, authorityName, authorityDescriptors}
+
+-- ---- what each span is: the record's, by the verdict of its call
+
+module _ (xs : List ℕ) where
+  pub common-had : plain xs ≡ Fine → spanOf xs (commonSpan xs) ≡ sectionAt xs .common .body
+  unfolding commonOf sectionRead sectionAt
+  common-had v = rw v
+
+  pub common-none : (r : Refusal) → plain xs ≡ Refused r → commonSpan xs ≡ span 0 0
+  unfolding commonOf sectionRead
+  common-none r v = rw v
+
+  module _ (k : ℕ) where
+    pub provider-name-had : (d : Provider) → providerRows xs k ≡ Fine → spanOf xs (providerName xs k) ≡ getD (sectionAt xs .providers) k d .named .name
+    unfolding providerNameOf numberedProvider providerBy providerAt
+    provider-name-had d v = let o = provider-rows xs k v in rw (v, provider-is xs (o .0) k (o .1) d)
+
+    pub provider-descriptors-had : (d : Provider) → providerRows xs k ≡ Fine → spanOf xs (providerDescriptors xs k) ≡ getD (sectionAt xs .providers) k d .named .descriptors .body
+    unfolding providerDescriptorsOf numberedProvider providerBy providerAt
+    provider-descriptors-had d v = let o = provider-rows xs k v in rw (v, provider-is xs (o .0) k (o .1) d)
+
+    pub provider-none : (r : Refusal) → providerRows xs k ≡ Refused r → (providerName xs k ≡ span 0 0) × (providerDescriptors xs k ≡ span 0 0)
+    unfolding providerNameOf providerDescriptorsOf numberedProvider providerBy
+    provider-none r v = (rw v, rw v)
+
+    module _ (j : ℕ) where
+      pub authority-name-had : (d : Provider) (a : Authority) → authorityRows xs k j ≡ Fine → spanOf xs (authorityName xs k j) ≡ getD (getD (sectionAt xs .providers) k d .authorities) j a .name
+      unfolding authorityNameOf numberedAuthority authorityBy
+      authority-name-had d a v =
+          let o = authority-rows xs k j v in
+          let q = provider-rows xs k (o .0) in
+          rw (v, provider-is xs (q .0) k (q .1) d, authority-is xs (q .0) k (q .1) j (o .1) a)
+
+      pub authority-descriptors-had : (d : Provider) (a : Authority) → authorityRows xs k j ≡ Fine
+          → spanOf xs (authorityDescriptors xs k j) ≡ getD (getD (sectionAt xs .providers) k d .authorities) j a .descriptors
+      unfolding authorityDescriptorsOf numberedAuthority authorityBy
+      authority-descriptors-had d a v =
+          let o = authority-rows xs k j v in
+          let q = provider-rows xs k (o .0) in
+          rw (v, provider-is xs (q .0) k (q .1) d, authority-is xs (q .0) k (q .1) j (o .1) a)
+
+      pub authority-none : (r : Refusal) → authorityRows xs k j ≡ Refused r → (authorityName xs k j ≡ span 0 0) × (authorityDescriptors xs k j ≡ span 0 0)
+      unfolding authorityNameOf authorityDescriptorsOf numberedAuthority authorityBy
+      authority-none r v = (rw v, rw v)
+
+  -- ---- inside
+
+  payload-inside : plain xs ≡ Fine → payloadEnd xs ≤ length xs
+  payload-inside v = let o = accepted plainDemands xs v .frame in omega (arith, o .within)
+
+  -- a span that lies within where the verdict is fine, and else is nothing
+  by-verdict : (v : Verdict) (s : Span) → (v ≡ Fine → s .start + s .length ≤ length xs) → ((r : Refusal) → v ≡ Refused r → s ≡ span 0 0) → spanIn xs s ≡ s
+  by-verdict Fine s f g = span-inside xs s (f refl)
+  by-verdict (Refused r) s f g = let z = g r refl in span-inside xs s (rw z (omega arith))
+
+  common-fine : plain xs ≡ Fine → commonSpan xs .start + commonSpan xs .length ≤ length xs
+  unfolding commonOf sectionRead
+  common-fine v = rw v (omega (arith, accepted plainDemands xs v .common, payload-inside v))
+
+  pub common-inside : spanIn xs (commonSpan xs) ≡ commonSpan xs
+  common-inside = by-verdict (plain xs) (commonSpan xs) common-fine common-none
+
+  module _ (k : ℕ) where
+    name-fine : providerRows xs k ≡ Fine → providerName xs k .start + providerName xs k .length ≤ length xs
+    unfolding providerNameOf numberedProvider providerBy
+    name-fine v =
+        let o = provider-rows xs k v in
+        let h = provider-passed xs (o .0) k (o .1) in
+        rw v (omega (arith, h .within, h .named, payload-inside (o .0)))
+
+    pub provider-name-inside : spanIn xs (providerName xs k) ≡ providerName xs k
+    provider-name-inside = by-verdict (providerRows xs k) (providerName xs k) name-fine (λ r v. provider-none k r v .0)
+
+    descriptors-fine : providerRows xs k ≡ Fine → providerDescriptors xs k .start + providerDescriptors xs k .length ≤ length xs
+    unfolding providerDescriptorsOf numberedProvider providerBy
+    descriptors-fine v =
+        let o = provider-rows xs k v in
+        let h = provider-passed xs (o .0) k (o .1) in
+        rw v (omega (arith, h .within, h .named, payload-inside (o .0)))
+
+    pub provider-descriptors-inside : spanIn xs (providerDescriptors xs k) ≡ providerDescriptors xs k
+    provider-descriptors-inside = by-verdict (providerRows xs k) (providerDescriptors xs k) descriptors-fine (λ r v. provider-none k r v .1)
+
+    module _ (j : ℕ) where
+      authority-name-fine : authorityRows xs k j ≡ Fine → authorityName xs k j .start + authorityName xs k j .length ≤ length xs
+      unfolding authorityNameOf numberedAuthority authorityBy
+      authority-name-fine v =
+          let o = authority-rows xs k j v in
+          let q = provider-rows xs k (o .0) in
+          rw v (omega (arith, authority-within xs (q .0) k (q .1) j (o .1), payload-inside (q .0)))
+
+      pub authority-name-inside : spanIn xs (authorityName xs k j) ≡ authorityName xs k j
+      authority-name-inside = by-verdict (authorityRows xs k j) (authorityName xs k j) authority-name-fine (λ r v. authority-none k j r v .0)
+
+      authority-descriptors-fine : authorityRows xs k j ≡ Fine → authorityDescriptors xs k j .start + authorityDescriptors xs k j .length ≤ length xs
+      unfolding authorityDescriptorsOf numberedAuthority authorityBy
+      authority-descriptors-fine v =
+          let o = authority-rows xs k j v in
+          let q = provider-rows xs k (o .0) in
+          rw v (omega (arith, authority-within xs (q .0) k (q .1) j (o .1), payload-inside (q .0)))
+
+      pub authority-descriptors-inside : spanIn xs (authorityDescriptors xs k j) ≡ authorityDescriptors xs k j
+      authority-descriptors-inside = by-verdict (authorityRows xs k j) (authorityDescriptors xs k j) authority-descriptors-fine (λ r v. authority-none k j r v .1)

@@ -1,0 +1,2 @@
+-- Which parts of a section are handed back.
+pub mod Parts

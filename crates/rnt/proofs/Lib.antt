@@ -4,4 +4,6 @@ pub mod Providers
 pub mod Head
 pub mod Accepted
 pub mod Numbers
+pub mod Rows
+pub mod Listed
 pub mod Unique

@@ -2,4 +2,5 @@
 pub mod Walks
 pub mod EntryLaws
 pub mod Listing
+pub mod Listed
 pub mod Unique

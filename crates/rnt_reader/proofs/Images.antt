@@ -1,20 +1,24 @@
 -- What the record of a whole reading stands for: the section's header, its common descriptors, which are those bytes of the lent slice, and its number of providers. Which numbers it can refuse with.
 -- Assumes nothing.
-use Prim.Native.Nat.{ℕ}
-use mathlib.Core.Path.{_≡_, refl, sym}
+use Prim.Native.Nat.{ℕ, _+_, _<_}
+use mathlib.Core.Path.{_≡_, refl, sym, ap, _∙_}
 use mathlib.Core.Bool.{true}
 use mathlib.Core.List.{List}
 use native.Mathlib.Omega.{arith}
-use lib.ListN.{length}
+use lib.ListN.{length, length-take}
+use Rattle.wire.specs.Lists.{Bytes}
 use Rattle.wire.specs.Spans.{spanOf}
 use Rattle.wire.specs.declared.verdict.Refusal.{Refusal}
 use Rattle.wire.specs.declared.verdict.Verdict.{Verdict}
 use Rattle.wire.specs.declared.verdict.Verdict.the-variants.{Fine, Refused}
 use Rattle.wire.proofs.Among.{listed, Among}
-use Rattle.rnt.specs.Syntax.{Section}
-use Rattle.rnt.specs.Reading.{sectionAt, plain, checked}
+use Rattle.frame.specs.Syntax.{crcLength}
+use Rattle.frame.specs.Reading.{payloadEnd, plainDemands}
+use Rattle.rnt.specs.Syntax.{Section, sectionBytes}
+use Rattle.rnt.specs.Reading.{sectionAt, providerCount, providerPlace, plain, checked}
+use Rattle.rnt.proofs.Accepted.{accepted, rebuilt}
 use Rattle.rnt.proofs.Listed.{plainReading, checkedReading, plain-listed, checked-listed}
-use Rattle.rnt.proofs.Numbers.{count-is}
+use Rattle.rnt.proofs.Numbers.{count-is, provider-first}
 use Rattle.rnt_reader.specs.Sections.{sectionInfo, sectionRead}
 use Rattle.rnt_reader.specs.declared.RntSection.{RntSection}
 use Rattle.rnt_reader.specs.declared.RntRead.the-variants as read
@@ -29,6 +33,15 @@ pub record StandsFor (text : List ℕ) (k : RntSection) (s : Section) : Type 0 w
 pub section-image : (xs : List ℕ) → StandsFor xs (sectionInfo xs) (sectionAt xs)
 unfolding sectionAt
 section-image xs = record { header = refl; reserved = refl; common = refl; number = sym (count-is xs) }
+
+-- its total is that of the section's bytes with their CRC, and its first provider stands behind the common descriptors
+pub section-total : (xs : List ℕ) → Bytes xs → plain xs ≡ Fine → sectionInfo xs .total ≡ length (sectionBytes (sectionAt xs)) + crcLength
+section-total xs b v =
+    let o = accepted plainDemands xs v .frame in
+    omega (arith, o .large, o .within, ap length (rebuilt plainDemands xs b v .same) ∙ length-take (payloadEnd xs) xs)
+
+pub first-provider : (xs : List ℕ) → 0 < providerCount xs → providerPlace xs 0 ≡ sectionInfo xs .«common_descriptors» .start + sectionInfo xs .«common_descriptors» .length
+first-provider xs h = provider-first xs h
 
 read-listed : (ns : List ℕ) (v : Verdict) (xs : List ℕ) → Among ns v → (r : Refusal) → sectionRead v xs ≡ read.Refused r → listed (r .number) ns ≡ true
 unfolding sectionRead

@@ -1,9 +1,10 @@
 -- What a provider and an authority by their places answer, case by case, over plain lists.
 -- Assumes nothing.
 use mathlib.Core.Path.{_≡_}
-use Prim.Native.Nat.{ℕ}
+use Prim.Native.Nat.{ℕ, _≤_}
+use native.Mathlib.Omega.{arith}
 use mathlib.Core.List.{List}
-use Rattle.wire.specs.Lengths.{blockEnd}
+use lib.ListN.{length}
 use Rattle.wire.specs.declared.verdict.Refusal.{Refusal}
 use Rattle.wire.specs.declared.verdict.Verdict.the-variants.{Fine, Refused}
 use Rattle.rnt.specs.Reading.{namedEnd, authorityVerdict, providerHead}
@@ -11,6 +12,14 @@ use Rattle.rnt.specs.Records.{providerInfo, authorityInfo}
 use Rattle.rnt_walker.specs.Entries.{endIn, providerAnswer, providerFrom, authorityAnswer, authorityFrom}
 use Rattle.rnt_walker.specs.declared.entry.ProviderFound.the-variants as provider
 use Rattle.rnt_walker.specs.declared.entry.AuthorityFound.the-variants as authority
+
+-- the end that is told, or the slice's where that comes first
+module _ (xs : List ℕ) (e : ℕ) where
+  pub end-told : e ≤ length xs → endIn xs e ≡ e
+  end-told h = omega arith
+
+  pub end-short : length xs ≤ e → endIn xs e ≡ length xs
+  end-short h = omega arith
 
 module _ (xs : List ℕ) (e p : ℕ) where
   pub provider-found : providerHead xs (endIn xs e) p ≡ Fine → provider.Got (providerInfo xs p) ≡ providerFrom xs e p

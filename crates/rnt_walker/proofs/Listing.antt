@@ -1,21 +1,26 @@
 -- A walk by places lists the providers and authorities by number: at the place of provider k, and of its authority j, the calls
--- by place answer those. Where the next one stands, rnt's laws of numbers say.
+-- by place answer those, and their records say where the next one stands.
 -- Assumes nothing.
-use mathlib.Core.Path.{_≡_, refl, sym}
-use Prim.Native.Nat.{ℕ, _≤_, _<_, min}
+use mathlib.Core.Path.{_≡_, refl, sym, _∙_}
+use Prim.Native.Nat.{ℕ, suc, _≤_, _<_}
 use native.Mathlib.Omega.{arith}
-use mathlib.Core.List.{List}
-use lib.ListN.{length}
+use mathlib.Core.Bool.{Bool, true, false}
+use mathlib.Core.List.{List, map}
+use lib.Dec.{ltb}
+use lib.ListN.{length, length-map, List·getD-eq-default}
+use borrow.Author.Tests.{ltb-true, ltb-false}
 use Rattle.wire.specs.Lengths.{blockEnd}
 use Rattle.wire.specs.Refusals.{authorityCut}
 use Rattle.wire.specs.declared.verdict.Verdict.the-variants.{Fine}
+use Rattle.wire.proofs.RunLaws.{run-count, told-at}
 use Rattle.frame.specs.Reading.{payloadEnd, plainDemands}
-use Rattle.rnt.specs.Reading.{namedEnd, providerCount, providerPlace, authorityCount, authorityPlace, plain}
+use Rattle.rnt.specs.Reading.{namedEnd, infoPlace, authorityPlaces, providerPlaces, providerCount, providerPlace, authorityCount, authorityPlace, authorityVerdict, plain}
 use Rattle.rnt.specs.Records.{providerInfo, authorityInfo}
-use Rattle.rnt.proofs.Names.{named-passed, named-pass}
+use Rattle.rnt.proofs.Names.{named-up, named-passed, named-pass}
 use Rattle.rnt.proofs.Providers.{head-pass}
 use Rattle.rnt.proofs.Accepted.{accepted}
-use Rattle.rnt.proofs.Numbers.{provider-passed, authority-fine}
+use Rattle.rnt.proofs.Numbers.{provider-passed, authority-fine, provider-next, provider-last, authority-first}
+use Rattle.rnt_walker.specs.Places.{placesAt}
 use Rattle.rnt_walker.specs.Entries.{endIn, providerFrom, authorityFrom}
 use Rattle.rnt_walker.specs.declared.entry.ProviderFound.the-variants as provider
 use Rattle.rnt_walker.specs.declared.entry.AuthorityFound.the-variants as authority
@@ -41,3 +46,46 @@ module _ (xs : List ℕ) (v : plain xs ≡ Fine) (k : ℕ) (h : k < providerCoun
       let w = named-passed authorityCut authorityCut xs _ q (authority-fine xs v k h j l) in
       let t = provider-passed xs v k h .within in
       sym (authority-found xs e q (namedEnd xs q) (named-pass authorityCut authorityCut xs (endIn xs e) q (omega arith)) refl)
+
+-- ---- from record to record
+
+module _ (xs : List ℕ) where
+  pub next-provider : (k : ℕ) → suc k < providerCount xs → providerPlace xs (suc k) ≡ providerInfo xs (providerPlace xs k) .end
+  next-provider = provider-next xs
+
+  pub last-provider : plain xs ≡ Fine → (k : ℕ) → suc k ≡ providerCount xs → providerInfo xs (providerPlace xs k) .end ≡ payloadEnd xs
+  last-provider = provider-last xs
+
+  pub first-authority : (p : ℕ) → 0 < authorityCount xs p → authorityPlace xs p 0 ≡ providerInfo xs p .«authorities_at»
+  first-authority = authority-first xs
+
+  pub no-authority : plain xs ≡ Fine → (k : ℕ) → k < providerCount xs → authorityCount xs (providerPlace xs k) ≡ 0
+      → providerInfo xs (providerPlace xs k) .«authorities_at» ≡ providerInfo xs (providerPlace xs k) .end
+  no-authority v k h n = by (ltb a e) refl
+    where
+      a : ℕ
+      a = namedEnd xs (infoPlace (providerPlace xs k))
+
+      e : ℕ
+      e = blockEnd xs (providerPlace xs k)
+
+      w : a ≤ e
+      w = provider-passed xs v k h .named
+
+      by : (b : Bool) → ltb a e ≡ b → a ≡ e
+      by true t = absurd (omega (arith, n, run-count (namedEnd xs) (named-up xs) (authorityVerdict xs e) e a (ltb-true a e t)))
+      by false t = omega (arith, w, ltb-false a e t)
+
+-- ---- what there is none of has the place 0, and no authorities
+
+module _ (xs : List ℕ) (k j : ℕ) where
+  pub no-provider : providerCount xs ≤ k → (placesAt xs k j .«provider_at» ≡ 0) × ((placesAt xs k j .authorities ≡ 0) × (placesAt xs k j .«authority_at» ≡ 0))
+  no-provider h =
+      (List·getD-eq-default (providerPlaces xs) 0 h,
+      (List·getD-eq-default (map (authorityCount xs) (providerPlaces xs)) 0 (rw length-map h),
+      List·getD-eq-default (map (λ p. authorityPlace xs p j) (providerPlaces xs)) 0 (rw length-map h)))
+
+  pub no-such-authority : k < providerCount xs → placesAt xs k j .authorities ≤ j → placesAt xs k j .«authority_at» ≡ 0
+  no-such-authority h l =
+      told-at (λ p. authorityPlace xs p j) (providerPlaces xs) k 0 h
+      ∙ List·getD-eq-default (authorityPlaces xs (providerPlace xs k)) 0 (rw (told-at (authorityCount xs) (providerPlaces xs) k 0 h) at l)

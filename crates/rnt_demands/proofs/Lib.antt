@@ -1,0 +1,2 @@
+-- Demand 2, read from the calls' answers.
+pub mod Demand

@@ -1,0 +1,2 @@
+-- The section that the answers of the calls tell.
+pub mod Told

@@ -9,11 +9,11 @@ use lib.ListN.{length, take, length-append}
 use lib.Seq.{take-at}
 use Rattle.wire.specs.Lists.{Bytes}
 use Rattle.wire.specs.Numbers.{bytes32}
-use Rattle.wire.specs.Lengths.{longest, lengthBytes, Block, BlockFits, blockBytes}
+use Rattle.wire.specs.Lengths.{longest, blockBytes}
 use Rattle.wire.specs.declared.verdict.Verdict.the-variants.{Fine}
 use Rattle.wire.proofs.Lists.{bytes-append}
 use Rattle.wire.proofs.Words.{length-bytes32, bytes32-bytes}
-use Rattle.wire.proofs.Blocks.{lengthBytes-bytes}
+use Rattle.wire.proofs.Blocks.{block-bytes}
 use Rattle.wire.proofs.Verdicts.{passed-leb, pass-leb}
 use Rattle.crc.specs.Crc.{crcOf}
 use Rattle.crc.proofs.Ending.{crc-lt}
@@ -103,10 +103,6 @@ unfolding numberRow
 number-pass xs k h = pass-leb (countAt xs) k _ _ _ h
 
 -- ---- a sealed section is made of bytes
-
-block-bytes : (b : Block) → BlockFits b → Bytes (blockBytes b)
-unfolding blockBytes
-block-bytes b f = bytes-append (lengthBytes (b .beside) (length (b .body))) (b .body) (lengthBytes-bytes (b .beside) (length (b .body)) (f .narrow) (f .short)) (f .bytes)
 
 links-bytes : (ls : List Link) → LinksFit ls → Bytes (linksBytes ls)
 links-bytes [] f = tt

@@ -3,9 +3,7 @@ use Prim.Native.Nat.{_-_}
 use mathlib.Core.Path.{_≡_, sym, ap, _∙_}
 use native.Mathlib.Omega.{arith}
 use Rattle.frame.specs.Syntax.{crcLength}
-use Rattle.frame.specs.Reading.{payloadEnd, checkedDemands}
-use Rattle.frame.proofs.Endings.{crc-room}
-use Rattle.frame.proofs.Readings.{reading-opened, checked-stop, checked-crc}
+use Rattle.frame.proofs.Readings.{checked-stop, checked-said}
 use Rattle.rct.specs.Syntax.{rct}
 use Rattle.rct.specs.Reading.{payloadVerdict}
 use Rattle.rct_walker.proofs.Loops.{loop-had, loop-not, had-loop, not-loop}
@@ -47,9 +45,8 @@ returns c =
     let check-crc = c .before .before .check-crc in
     let s = args .s .now in
     let g = loop-had _ _ _ _ _ (sym (rw (checked .ensures) at (read-loop .ensures)) ∙ read .given .1) in
-    let o = reading-opened rct payloadVerdict checkedDemands s (g .fine) in
-    let e : payload-end .result ≡ payloadEnd s = payload-end .ensures ∙ ap (λ n. n - crcLength) (sym (g .total)) in
-    let v = checked-crc rct payloadVerdict s (g .fine) ∙ sym (crc-room s (payloadEnd s) (omega arith)) ∙ sym (rw e at (check-crc .ensures)) ∙ c .enum-told .given .1 in
+    let e = payload-end .ensures ∙ ap (λ n. n - crcLength) (sym (g .total)) in
+    let v = checked-said rct payloadVerdict s _ _ (omega arith) (g .fine) e (check-crc .ensures) ∙ c .enum-told .given .1 in
     had-loop _ s _ _ _ (record { fine = v; total = g .total; count = g .count; place = g .place })
 
 returns-2 : tie.Need-returns-2
@@ -62,9 +59,8 @@ returns-2 c =
     let check-crc = c .before .before .before .check-crc in
     let s = args .s .now in
     let g = loop-had _ _ _ _ _ (sym (rw (checked .ensures) at (read-loop .ensures)) ∙ read .given .1) in
-    let o = reading-opened rct payloadVerdict checkedDemands s (g .fine) in
-    let e : payload-end .result ≡ payloadEnd s = payload-end .ensures ∙ ap (λ n. n - crcLength) (sym (g .total)) in
-    not-loop _ s _ (checked-crc rct payloadVerdict s (g .fine) ∙ sym (crc-room s (payloadEnd s) (omega arith)) ∙ sym (rw e at (check-crc .ensures)) ∙ c .before .v .given .1)
+    let e = payload-end .ensures ∙ ap (λ n. n - crcLength) (sym (g .total)) in
+    not-loop _ s _ (checked-said rct payloadVerdict s _ _ (omega arith) (g .fine) e (check-crc .ensures) ∙ c .before .v .given .1)
 
 returns-3 : tie.Need-returns-3
 returns-3 c =

@@ -3,9 +3,7 @@ use Prim.Native.Nat.{_-_}
 use mathlib.Core.Path.{_≡_, sym, ap, _∙_}
 use native.Mathlib.Omega.{arith}
 use Rattle.frame.specs.Syntax.{crcLength}
-use Rattle.frame.specs.Reading.{payloadEnd, checkedDemands}
-use Rattle.frame.proofs.Endings.{crc-room}
-use Rattle.frame.proofs.Readings.{reading-opened, checked-stop, checked-crc}
+use Rattle.frame.proofs.Readings.{checked-stop, checked-said}
 use Rattle.rct.specs.Syntax.{rct}
 use Rattle.rct.specs.Reading.{payloadVerdict}
 use Rattle.rct_walker.specs.declared.RctPlaces.{RctPlaces}
@@ -48,9 +46,8 @@ returns c =
     let check-crc = c .before .before .check-crc in
     let s = args .s .now in
     let g = walked-read _ _ _ (sym (rw (checked .ensures) at (read-places .ensures)) ∙ read .given .1) in
-    let o = reading-opened rct payloadVerdict checkedDemands s (g .0) in
-    let e : payload-end .result ≡ payloadEnd s = payload-end .ensures ∙ ap (λ (p : RctPlaces). p .total - crcLength) (sym (g .1)) in
-    read-walked _ _ _ (checked-crc rct payloadVerdict s (g .0) ∙ sym (crc-room s (payloadEnd s) (omega arith)) ∙ sym (rw e at (check-crc .ensures)) ∙ c .enum-told .given .1) (g .1)
+    let e = payload-end .ensures ∙ ap (λ (p : RctPlaces). p .total - crcLength) (sym (g .1)) in
+    read-walked _ _ _ (checked-said rct payloadVerdict s _ _ (omega arith) (g .0) e (check-crc .ensures) ∙ c .enum-told .given .1) (g .1)
 
 returns-2 : tie.Need-returns-2
 returns-2 c =
@@ -62,9 +59,8 @@ returns-2 c =
     let check-crc = c .before .before .before .check-crc in
     let s = args .s .now in
     let g = walked-read _ _ _ (sym (rw (checked .ensures) at (read-places .ensures)) ∙ read .given .1) in
-    let o = reading-opened rct payloadVerdict checkedDemands s (g .0) in
-    let e : payload-end .result ≡ payloadEnd s = payload-end .ensures ∙ ap (λ (p : RctPlaces). p .total - crcLength) (sym (g .1)) in
-    refused-walked _ _ _ (checked-crc rct payloadVerdict s (g .0) ∙ sym (crc-room s (payloadEnd s) (omega arith)) ∙ sym (rw e at (check-crc .ensures)) ∙ c .before .v .given .1)
+    let e = payload-end .ensures ∙ ap (λ (p : RctPlaces). p .total - crcLength) (sym (g .1)) in
+    refused-walked _ _ _ (checked-said rct payloadVerdict s _ _ (omega arith) (g .0) e (check-crc .ensures) ∙ c .before .v .given .1)
 
 returns-3 : tie.Need-returns-3
 returns-3 c =

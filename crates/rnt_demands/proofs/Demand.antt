@@ -37,17 +37,21 @@ module _ (xs : List ℕ) (v : plain xs ≡ Fine) where
   provider-told : (k : ℕ) → k < providerCount xs → providerTold xs (numberedProvider xs k) (numberedAuthority xs k) ≡ providerAt xs (providerPlace xs k)
   unfolding providerTold providerAt
   provider-told k h =
-      rw (provider-got xs k (rows-pass xs k v h),
-      asked-all (λ j. authorityTold xs (numberedAuthority xs k j)) (authorityAt xs) (authorityCount xs (providerPlace xs k)) 0 (authorityPlaces xs (providerPlace xs k)) refl
-      (λ i l. let z : 0 + i ≡ i = omega arith in ap (λ j. authorityTold xs (numberedAuthority xs k j)) z ∙ authority-told k i h l))
+      rw (
+        provider-got xs k (rows-pass xs k v h),
+        asked-all (λ j. authorityTold xs (numberedAuthority xs k j)) (authorityAt xs) (authorityCount xs (providerPlace xs k)) 0 (authorityPlaces xs (providerPlace xs k)) refl
+            (λ i l. let z : 0 + i ≡ i = omega arith in ap (λ j. authorityTold xs (numberedAuthority xs k j)) z ∙ authority-told k i h l),
+      )
 
   -- the calls tell the section that the bytes stand for
   pub told-section : told xs ≡ sectionAt xs
   unfolding told sectionTold sectionRead sectionAt
   told-section =
-      rw (v,
-      asked-all (λ k. providerTold xs (numberedProvider xs k) (numberedAuthority xs k)) (providerAt xs) (providerCount xs) 0 (providerPlaces xs) refl
-      (λ i l. let z : 0 + i ≡ i = omega arith in ap (λ k. providerTold xs (numberedProvider xs k) (numberedAuthority xs k)) z ∙ provider-told i l))
+      rw (
+        v,
+        asked-all (λ k. providerTold xs (numberedProvider xs k) (numberedAuthority xs k)) (providerAt xs) (providerCount xs) 0 (providerPlaces xs) refl
+            (λ i l. let z : 0 + i ≡ i = omega arith in ap (λ k. providerTold xs (numberedProvider xs k) (numberedAuthority xs k)) z ∙ provider-told i l),
+      )
 
 pub record ToldRebuilt (xs : List ℕ) : Type 0 where
   pub same : sectionBytes (told xs) ≡ take (payloadEnd xs) xs

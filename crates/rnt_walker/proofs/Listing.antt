@@ -80,10 +80,13 @@ module _ (xs : List ℕ) where
 
 module _ (xs : List ℕ) (k j : ℕ) where
   pub no-provider : providerCount xs ≤ k → (placesAt xs k j .«provider_at» ≡ 0) × ((placesAt xs k j .authorities ≡ 0) × (placesAt xs k j .«authority_at» ≡ 0))
-  no-provider h =
-      (List·getD-eq-default (providerPlaces xs) 0 h,
-      (List·getD-eq-default (map (authorityCount xs) (providerPlaces xs)) 0 (rw length-map h),
-      List·getD-eq-default (map (λ p. authorityPlace xs p j) (providerPlaces xs)) 0 (rw length-map h)))
+  no-provider h = (
+    List·getD-eq-default (providerPlaces xs) 0 h,
+    (
+      List·getD-eq-default (map (authorityCount xs) (providerPlaces xs)) 0 (rw length-map h),
+      List·getD-eq-default (map (λ p. authorityPlace xs p j) (providerPlaces xs)) 0 (rw length-map h),
+    ),
+  )
 
   pub no-such-authority : k < providerCount xs → placesAt xs k j .authorities ≤ j → placesAt xs k j .«authority_at» ≡ 0
   no-such-authority h l =

@@ -25,7 +25,7 @@ sampleProvider =
     record { «reserved_info_length» = 7; name = span 16 2; «reserved_descriptors_length» = 5; descriptors = span 20 1; «authorities_at» = 21; end = 27 }
 
 abbrev sampleAuthority : CridAuthority
-sampleAuthority = record { name = span 22 1; reserved = 2; «crid_authority_policy» = 2; descriptors = span 25 2 }
+sampleAuthority = record { name = span 22 1; reserved = 1; «crid_authority_policy» = 2; descriptors = span 25 2 }
 
 pub record Rows : Type 0 where
   pub provider-0 : numberedProvider sample 0 ≡ provider.Got sampleProvider 1

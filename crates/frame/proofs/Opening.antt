@@ -2,7 +2,7 @@
 -- Assumes nothing.
 use mathlib.Core.Path.{_≡_}
 use mathlib.Core.Logic.{_↔_}
-use Prim.Native.Nat.{ℕ, _≤_, _<_}
+use Prim.Native.Nat.{ℕ, _+_, _≤_, _<_}
 use native.Mathlib.Omega.{arith}
 use mathlib.Core.Bool.{not}
 use mathlib.Core.List.{List}
@@ -11,12 +11,13 @@ use borrow.Author.Tests.{lt-ltb, le-ltb, eq-eqb, ne-eqb}
 use lib.ListN.{length, getD}
 use Rattle.wire.specs.Lists.{Bytes}
 use Rattle.wire.specs.Lengths.{longest}
-use Rattle.wire.specs.Verdict.{bad, refuse, _▷_}
+use Rattle.wire.specs.Verdict.{bad, refuse, reached, _▷_}
 use Rattle.wire.specs.declared.verdict.Verdict.the-variants.{Fine}
+use Rattle.wire.specs.declared.verdict.Reached.the-variants as reach
 use Rattle.wire.proofs.Blocks.{length-short}
-use Rattle.wire.proofs.Verdicts.{then-fine, fine-then, passed-ltb, passed-eqb, pass-ltb, pass-eqb}
+use Rattle.wire.proofs.Verdicts.{then-fine, fine-then, passed-ltb, passed-eqb, pass-ltb, pass-eqb, reached-at}
 use Rattle.wire.specs.Refusals.{tooShort, wrongLength, sectionTooLong}
-use Rattle.frame.specs.Syntax.{least}
+use Rattle.frame.specs.Syntax.{uncounted, least}
 use Rattle.frame.specs.Reading.{declared, totalOf, plainDemands, opened}
 use Rattle.frame.specs.declared.Table.{Table}
 use Rattle.frame.specs.declared.Demands.{Demands}
@@ -79,6 +80,21 @@ module _ (t : Table) (d : Demands) (xs : List ℕ) where
         unfolding opened refuse _▷_
         opened-long w h =
             rw (le-ltb (length xs) (least t) l, eq-eqb (getD xs 0 0) (t .id) i, le-ltb (totalOf xs) (least t) b, le-ltb (length xs) (totalOf xs) w, lt-ltb (d .most) (declared xs) h)
+
+-- what the place that an opening reached tells: the code's walks start from there
+pub record OpenedAt (t : Table) (d : Demands) (xs : List ℕ) (n : ℕ) : Type 0 where
+  pub fine : opened t d xs ≡ Fine
+  pub total : totalOf xs ≡ n
+  pub large : least t ≤ n
+  pub within : n ≤ length xs
+  pub short : n ≤ uncounted + longest
+
+pub opened-at : (t : Table) (d : Demands) (xs : List ℕ) (n : ℕ) → Bytes xs → reached (opened t d xs) (totalOf xs) ≡ reach.At n → OpenedAt t d xs n
+opened-at t d xs n b e =
+    let g = reached-at _ _ _ e in
+    let o = opened-fine t d xs (g .0) in
+    let l = length-short xs 1 b in
+    record { fine = g .0; total = g .1; large = omega (arith, g .1, o .large); within = omega (arith, g .1, o .within); short = omega (arith, g .1, l) }
 
 -- the plain reading never breaks the last row: the rows of its opening are those before it
 pub plain-limit : (xs : List ℕ) → Bytes xs → refuse (ltb (plainDemands .most) (declared xs)) sectionTooLong (declared xs) (plainDemands .most) ≡ Fine

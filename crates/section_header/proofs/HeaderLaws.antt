@@ -63,6 +63,12 @@ header-fits xs b =
       last = bytes-at xs 7 b;
     }
 
+-- the header is that of bytes 1 and 3 to 7: the length's low byte has no part in it
+pub header-six : (xs : List ℕ) → Bytes xs → headerAt (0 ∷ getD xs 1 0 ∷ 0 ∷ getD xs 3 0 ∷ getD xs 4 0 ∷ getD xs 5 0 ∷ getD xs 6 0 ∷ getD xs 7 0 ∷ []) ≡ headerAt xs
+header-six xs b =
+    let bits : besideOf (getD xs 1 0) (getD xs 2 0) ≡ besideOf (getD xs 1 0) 0 = omega (arith, bytes-at xs 2 b) in
+    rw bits
+
 pub length-header : (h : SectionHeader) (len : ℕ) → length (headerBytes h len) ≡ 7
 unfolding headerBytes lengthBytes
 length-header h len = refl

@@ -1,8 +1,7 @@
 -- `header_at` meets its contract. Assumes nothing.
-use mathlib.Core.Path.{_≡_}
-use native.Mathlib.Omega.{arith}
-use lib.ListN.{getD}
-use Rattle.wire.specs.Lengths.{besideOf}
+use mathlib.Core.Path.{_∙_}
+use Rattle.wire.proofs.Lists.{bytes-known}
+use Rattle.section_header.proofs.HeaderLaws.{header-six}
 use borrow.Author.Needs.{needs}
 use Rattle.rct_reader.proofs.header_at.Statement.{statement}
 use Rattle.rct_reader.proofs.header_at.Tie as tie
@@ -46,8 +45,7 @@ returns c =
     let shared-slice-known = c .before .before .before .before .before .before .before .before .before .before .shared-slice-known in
     let of-bytes = c .before .before .before .of-bytes in
     let s = args .s .now in
-    let bits : besideOf (getD s 1 0) (getD s 2 0) ≡ besideOf (getD s 1 0) 0 = omega (arith, shared-slice-known .given 2) in
-    rw (of-bytes .ensures, c .be16 .ensures, bits)
+    rw (of-bytes .ensures ∙ header-six s (bytes-known s (shared-slice-known .given)), c .be16 .ensures)
 
 pub header-at-spec : {M : Type 1} → statement M
 header-at-spec =

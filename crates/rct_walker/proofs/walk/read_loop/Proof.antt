@@ -3,11 +3,10 @@ use Prim.Native.Nat.{_-_}
 use mathlib.Core.Path.{_≡_, sym, ap, _∙_}
 use native.Mathlib.Omega.{arith}
 use Rattle.wire.proofs.Lists.{bytes-known}
-use Rattle.wire.proofs.Blocks.{length-short}
 use Rattle.wire.proofs.Verdicts.{reached-at, reached-refused}
 use Rattle.frame.specs.Syntax.{crcLength}
 use Rattle.frame.specs.Reading.{payloadEnd}
-use Rattle.frame.proofs.Opening.{opened-fine}
+use Rattle.frame.proofs.Opening.{opened-fine, opened-at}
 use Rattle.frame.proofs.Readings.{reading-closed, reading-rows}
 use Rattle.rct.specs.Syntax.{rct}
 use Rattle.rct.specs.Reading.{payloadVerdict}
@@ -50,15 +49,13 @@ past-rest-requires : tie.Need-past-rest-requires
 past-rest-requires c κs =
     let args = c .before .before .before .before .before .before .before .before .before .before .args in
     let table = c .before .before .before .before .before .before .before .before .table in
-    let opened-at = c .before .before .before .before .before .before .before .«open» in
+    let opening = c .before .before .before .before .before .before .before .«open» in
     let front = c .before .before .before .before .before .front in
     let shared-slice-known = c .before .before .before .before .before .before .before .before .before .shared-slice-known in
     let payload-end = c .before .before .before .payload-end in
     let s = args .s .now in
-    let g = reached-at _ _ _ (sym (rw (table .ensures) at (opened-at .ensures)) ∙ front .given .1) in
-    let o = opened-fine rct _ s (g .0) in
-    let n = length-short s 1 (bytes-known s (shared-slice-known .given)) in
-    (omega (arith, g .1, c .head .ensures, payload-end .ensures), (omega (arith, g .1, payload-end .ensures), omega (arith, g .1, payload-end .ensures)))
+    let k = opened-at rct _ s _ (bytes-known s (shared-slice-known .given)) (sym (rw (table .ensures) at (opening .ensures)) ∙ front .given .1) in
+    (omega (arith, k .large, c .head .ensures, payload-end .ensures), (omega (arith, k .within, payload-end .ensures), omega (arith, k .short, payload-end .ensures)))
 
 enum-known-rest : tie.Need-enum-known-rest
 enum-known-rest c = search needs

@@ -2,9 +2,8 @@
 use mathlib.Core.Path.{_≡_, sym, _∙_}
 use native.Mathlib.Omega.{arith}
 use Rattle.wire.proofs.Lists.{bytes-known}
-use Rattle.wire.proofs.Blocks.{length-short}
 use Rattle.wire.proofs.Verdicts.{reached-at, reached-refused}
-use Rattle.frame.proofs.Opening.{opened-fine}
+use Rattle.frame.proofs.Opening.{opened-at}
 use Rattle.frame.proofs.Readings.{reading-closed, reading-rows}
 use Rattle.rct.specs.Syntax.{rct}
 use Rattle.rct.specs.Reading.{payloadVerdict}
@@ -26,13 +25,11 @@ past-payload-requires : tie.Need-past-payload-requires
 past-payload-requires c κs =
     let args = c .before .before .before .before .before .before .args in
     let table = c .before .before .before .before .table in
-    let opened-at = c .before .before .before .«open» in
-    let shared-slice-known = c .before .before .before .before .before .shared-slice-known in
+    let opened = c .before .before .before .«open» in
+    let known = c .before .before .before .before .before .shared-slice-known in
     let s = args .s .now in
-    let g = reached-at _ _ _ (sym (rw (table .ensures) at (opened-at .ensures)) ∙ c .before .front .given .1) in
-    let o = opened-fine rct _ s (g .0) in
-    let n = length-short s 1 (bytes-known s (shared-slice-known .given)) in
-    (sym (g .1), (omega (arith, g .1), (omega (arith, g .1), omega (arith, g .1))))
+    let k = opened-at rct _ s _ (bytes-known s (known .given)) (sym (rw (table .ensures) at (opened .ensures)) ∙ c .before .front .given .1) in
+    (sym (k .total), (k .large, (k .within, omega (arith, k .short))))
 
 enum-known-front-2 : tie.Need-enum-known-front-2
 enum-known-front-2 c = search needs

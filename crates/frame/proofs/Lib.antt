@@ -3,5 +3,6 @@ pub mod Opening
 pub mod Endings
 pub mod Listed
 pub mod Readings
+pub mod Indicator
 pub mod Tables
 pub mod Unique

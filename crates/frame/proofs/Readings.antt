@@ -1,22 +1,24 @@
--- The readings of a table, whatever its own rows: what stands in front of them and what follows; a reading up to a limit and the
+-- The readings of a table, whatever its own rows: what stands in front of them and what follows; a reading by demands and the
 -- checked one against the plain one.
 -- Assumes nothing.
-use mathlib.Core.Path.{_≡_, sym, ap, _∙_}
+use mathlib.Core.Path.{_≡_, refl, sym, ap, _∙_}
 use mathlib.Core.Logic.{_↔_}
 use Prim.Native.Nat.{ℕ, _≤_}
 use native.Mathlib.Omega.{arith}
+use mathlib.Core.Bool.{true}
 use mathlib.Core.List.{List}
 use Rattle.wire.specs.Lengths.{longest}
 use Rattle.wire.specs.declared.verdict.Refusal.{Refusal}
 use Rattle.wire.specs.declared.verdict.Verdict.{Verdict}
 use Rattle.wire.specs.declared.verdict.Verdict.the-variants.{Fine, Refused}
 use Rattle.wire.proofs.Verdicts.{then-fine, fine-then, go-on, refused-then}
-use Rattle.frame.specs.Syntax.{crcLength, limit, least}
+use Rattle.section_header.specs.Reading.{headerAt}
+use Rattle.frame.specs.Syntax.{crcLength, limit, least, Indicated}
 use Rattle.frame.specs.Reading.{declared, payloadEnd, plainDemands, checkedDemands, opened, stored, computed, crcRow, readingBy, checkedBy}
 use Rattle.frame.specs.Ending.{crcVerdict}
 use Rattle.frame.specs.declared.Table.{Table}
 use Rattle.frame.specs.declared.Demands.{Demands}
-use Rattle.frame.proofs.Opening.{Opened, opened-fine, fine-opened}
+use Rattle.frame.proofs.Opening.{Opened, opened-fine, fine-opened, plain-indicated}
 use Rattle.frame.proofs.Endings.{crc-room, crc-passed, crc-pass}
 
 module _ (t : Table) (rows : List ℕ → Verdict) where
@@ -70,11 +72,13 @@ module _ (t : Table) (rows : List ℕ → Verdict) where
 
   -- ---- against the plain reading
 
+  -- plainly fine, the indicator as d demands it, and no longer than it takes
   pub record Within (d : Demands) (xs : List ℕ) : Type 0 where
     pub plainly : readingBy t rows plainDemands xs ≡ Fine
+    pub indicated : Indicated d (headerAt xs)
     pub limited : declared xs ≤ d .most
 
-  -- a reading up to a limit is the plain one, of sections within the limit
+  -- a reading by demands is the plain one, of sections that meet them
   pub within-iff : (d : Demands) (xs : List ℕ) → d .most ≤ longest → (readingBy t rows d xs ≡ Fine) ↔ Within d xs
   within-iff d xs m = (to, from)
     where
@@ -82,28 +86,33 @@ module _ (t : Table) (rows : List ℕ → Verdict) where
       to v =
           let o = reading-opened d xs v in
           record {
-            plainly = reading-pass plainDemands xs (record { id-is = o .id-is; large = o .large; within = o .within; limited = omega (arith, o .limited) }) (reading-passed d xs v);
+            plainly = reading-pass plainDemands xs (record { id-is = o .id-is; indicated = plain-indicated (headerAt xs); large = o .large; within = o .within; limited = omega (arith, o .limited) }) (reading-passed d xs v);
+            indicated = o .indicated;
             limited = o .limited;
           }
 
       from : Within d xs → readingBy t rows d xs ≡ Fine
       from w =
           let o = reading-opened plainDemands xs (w .plainly) in
-          reading-pass d xs (record { id-is = o .id-is; large = o .large; within = o .within; limited = w .limited }) (reading-passed plainDemands xs (w .plainly))
+          reading-pass d xs (record { id-is = o .id-is; indicated = w .indicated; large = o .large; within = o .within; limited = w .limited }) (reading-passed plainDemands xs (w .plainly))
 
   pub record Checks (xs : List ℕ) : Type 0 where
     pub plainly : readingBy t rows plainDemands xs ≡ Fine
+    pub indicated : headerAt xs .«section_syntax_indicator» ≡ true
     pub limited : declared xs ≤ limit
     pub right : stored xs ≡ computed xs
 
-  -- the checked reading is fine exactly if the plain one is, the length is within the limit and the stored CRC is the computed one
+  -- the checked reading is fine exactly if the plain one is, section_syntax_indicator is set, the length is within the limit and the
+  -- stored CRC is the computed one
   pub checked-iff : (xs : List ℕ) → (checkedBy t rows xs ≡ Fine) ↔ Checks xs
   checked-iff xs = (to, from)
     where
       to : checkedBy t rows xs ≡ Fine → Checks xs
       to v =
           let w = within-iff checkedDemands xs (omega arith) .0 (checked-reading xs v) in
-          record { plainly = w .plainly; limited = w .limited; right = checked-right xs v }
+          record { plainly = w .plainly; indicated = w .indicated refl; limited = w .limited; right = checked-right xs v }
 
       from : Checks xs → checkedBy t rows xs ≡ Fine
-      from k = checked-pass xs (within-iff checkedDemands xs (omega arith) .1 (record { plainly = k .plainly; limited = k .limited })) (k .right)
+      from k =
+          let w = within-iff checkedDemands xs (omega arith) .1 in
+          checked-pass xs (w (record { plainly = k .plainly; indicated = λ e. k .indicated; limited = k .limited })) (k .right)

@@ -1,16 +1,17 @@
 -- A section of any table as it is read: what its first bytes stand for, total functions of the bytes, and the verdict on them, row by row in reading order.
 -- Assumes nothing.
 use Prim.Native.Nat.{ℕ, _+_, _-_}
-use mathlib.Core.Bool.{not}
+use mathlib.Core.Bool.{Bool, true, false, not, _&&_}
 use mathlib.Core.List.{List}
 use lib.Dec.{ltb, eqb}
 use lib.ListN.{length, getD, take}
 use Rattle.wire.specs.Numbers.{be32}
 use Rattle.wire.specs.Lengths.{longest, lengthOf, lengthAt}
-use Rattle.wire.specs.Refusals.{tooShort, wrongLength, wrongCrc, sectionTooLong}
+use Rattle.wire.specs.Refusals.{tooShort, wrongLength, wrongCrc, sectionTooLong, noSyntaxIndicator}
 use Rattle.wire.specs.Verdict.{refuse, _▷_}
 use Rattle.wire.specs.declared.verdict.Verdict.{Verdict}
 use Rattle.crc.specs.Crc.{crcOf}
+use Rattle.section_header.specs.Reading.{syntaxIndicator}
 use Rattle.frame.specs.Syntax.{uncounted, crcLength, limit, least}
 use Rattle.frame.specs.declared.Table.{Table}
 use Rattle.frame.specs.declared.Demands.{Demands}
@@ -33,18 +34,24 @@ payloadEnd xs = totalOf xs - crcLength
 
 -- ---- the verdicts
 
--- what a reading demands of a section besides its syntax: the plain one takes every length that the field holds, the checked one no more than is written
+-- what a reading demands of a section besides its syntax: the plain one takes either indicator and every length that the field
+-- holds, the checked one no more than is written
 abbrev pub plainDemands : Demands
-plainDemands = record { most = longest }
+plainDemands = record { indicator = false; most = longest }
 
 abbrev pub checkedDemands : Demands
-checkedDemands = record { most = limit }
+checkedDemands = record { indicator = true; most = limit }
+
+-- the indicator is demanded, and byte 1 does not have it
+abbrev pub unindicated : Demands → ℕ → Bool
+unindicated d b1 = d .indicator && not (syntaxIndicator b1)
 
 -- what stands in front, for a table and for what a reading demands
 unfoldable pub opened : Table → Demands → List ℕ → Verdict
 opened t d xs =
     refuse (ltb (length xs) (least t)) tooShort (least t) (length xs)
     ▷ refuse (not (eqb (getD xs 0 0) (t .id))) (t .other) (t .id) (getD xs 0 0)
+    ▷ refuse (unindicated d (getD xs 1 0)) noSyntaxIndicator (getD xs 1 0) 0
     ▷ refuse (ltb (totalOf xs) (least t)) wrongLength (declared xs) (length xs)
     ▷ refuse (ltb (length xs) (totalOf xs)) wrongLength (declared xs) (length xs)
     ▷ refuse (ltb (d .most) (declared xs)) sectionTooLong (declared xs) (d .most)

@@ -2,11 +2,15 @@
 -- the CRC. Nothing here reads.
 -- Assumes nothing.
 use Prim.Native.Nat.{ℕ, _+_, _-_}
+use mathlib.Core.Path.{_≡_}
+use mathlib.Core.Bool.{true}
 use mathlib.Core.List.{List, _++_}
 use Rattle.wire.specs.Numbers.{bytes32}
 use Rattle.wire.specs.Lengths.{longest}
 use Rattle.crc.specs.Crc.{crcOf}
+use Rattle.section_header.specs.declared.SectionHeader.{SectionHeader}
 use Rattle.frame.specs.declared.Table.{Table}
+use Rattle.frame.specs.declared.Demands.{Demands}
 
 -- ---- the numbers that hold for every table
 
@@ -24,6 +28,11 @@ longestPayload = uncounted + longest - crcLength
 -- the greatest section_length that is written, and that a checked reading takes
 abbrev pub limit : ℕ
 limit = longest
+
+-- what a demand says of a section's header: that section_syntax_indicator is set, where it is demanded. ISO/IEC 13818-1, 2.4.4.11, gives
+-- a section without it neither bytes 3 to 7 nor a CRC
+abbrev pub Indicated : Demands → SectionHeader → Type 0
+Indicated d h = d .indicator ≡ true → h .«section_syntax_indicator» ≡ true
 
 -- the bytes of a table's smallest section
 abbrev pub least : Table → ℕ

@@ -3,7 +3,8 @@ ghost use mathlib.Core.Path.{_≡_};
 ghost use Prim.Native.Nat.{_+_, _-_, _≤_};
 ghost use Rattle.wire.specs.Verdict.{bad, reached};
 ghost use Rattle.frame.specs.Syntax.{crcLength, least, limit};
-ghost use Rattle.frame.specs.Reading.{totalIn, totalOf, plainDemands, checkedDemands, opened};
+ghost use Rattle.frame.specs.Reading.{totalIn, totalOf, plainDemands, checkedDemands, unindicated, opened};
+use section_header::SectionHeader;
 use wire::lengths::LengthField;
 use wire::verdict::Reached;
 use wire::verdict::Refusal;
@@ -34,8 +35,10 @@ impl Table {
     }
 }
 
-// What a reading demands of a section besides its syntax: the greatest section_length that it takes.
+// What a reading demands of a section besides its syntax: section_syntax_indicator set or not looked at, and the greatest
+// section_length that it takes.
 pub struct Demands {
+    pub indicator: bool,
     pub most: usize,
 }
 
@@ -43,22 +46,34 @@ impl Demands {
     // The greatest section_length that is written, and that a checked reading takes.
     pub const LIMIT: usize = LengthField::LONGEST;
 
-    // The plain reading takes every length that the field holds.
+    // The plain reading takes either indicator, and every length that the field holds.
     pub fn plain() -> Demands
         ensures { λ r. ⌜ r ≡ plainDemands ⌝ }
     {
         Demands {
+            indicator: false,
             most: LengthField::LONGEST,
         }
     }
 
-    // The checked reading takes no more than is written.
+    // The checked reading takes no more than is written: the indicator is set, and the length is within the limit.
     pub fn checked() -> Demands
         ensures { λ r. ⌜ r ≡ checkedDemands ⌝ }
     {
         Demands {
+            indicator: true,
             most: Demands::LIMIT,
         }
+    }
+
+    // The indicator is demanded, and byte 1 does not have it.
+    fn unmet_by(self, b1: u8) -> bool
+        ensures { λ r. ⌜ r ≡ unindicated self b1 ⌝ }
+    {
+        if self.indicator {
+            return !SectionHeader::syntax_indicator(b1);
+        }
+        false
     }
 }
 
@@ -102,7 +117,11 @@ pub fn open(s: &[u8], t: Table, demands: Demands) -> Reached
     if id != t.id {
         return refused(t.other, wire::wide(t.id), wire::wide(id));
     }
-    let total = total(s[1], s[2]);
+    let b1 = s[1];
+    if demands.unmet_by(b1) {
+        return refused(Refusal::NO_SYNTAX_INDICATOR, wire::wide(b1), 0);
+    }
+    let total = total(b1, s[2]);
     let length = total - Table::UNCOUNTED;
     if total < least {
         return refused(Refusal::WRONG_LENGTH, length, s.len());

@@ -21,6 +21,7 @@ use Rattle.frame.specs.declared.Demands.{Demands}
 use Rattle.frame.proofs.Opening.{Opened}
 use Rattle.frame.proofs.Readings.{reading-opened, reading-passed, reading-pass}
 use Rattle.frame.proofs.Tables as tables
+use Rattle.rct.specs.declared.RctHeader.{RctHeader}
 use Rattle.rct.specs.Syntax.{headLength, shortest, rct, Section, headBytes, linksBytes, payload, sectionLength, fullLength, sectionBytes, Fits}
 use Rattle.rct.specs.Reading.{countAt, after, linksAt, loopPlace, sectionAt, linksVerdict, payloadVerdict, reading}
 use Rattle.rct.proofs.Head.{head-rebuild, rct-header-fits, HeadRead, head-back}
@@ -101,6 +102,7 @@ module _ (d : Demands) (xs : List ℕ) (b : Bytes xs) where
         count = rw length-linksAt (bytes-at xs 10 b);
         links = a .walked-links .fit;
         loop = block-fits xs (loopPlace xs) b (omega (arith, a .loop-end, a .frame .within));
+        indicated = a .frame .indicated;
         fits = rw (length-is a) (a .frame .limited);
       }
 
@@ -121,7 +123,14 @@ read-from d s xs tail f t hd = (passed, λ i. record { header = hd .header i; li
     size = omega (arith, hd .size, length-append (payload s) tail)
 
     frame : Opened rct d xs
-    frame = record { id-is = hd .id-is; large = omega (arith, hd .len-is, length-payload s); within = omega (arith, hd .len-is, size); limited = rw (hd .len-is) (f .fits) }
+    frame =
+        record {
+          id-is = hd .id-is;
+          indicated = λ e. ap (λ (h : RctHeader). h .section .«section_syntax_indicator») (hd .header) ∙ f .indicated e;
+          large = omega (arith, hd .len-is, length-payload s);
+          within = omega (arith, hd .len-is, size);
+          limited = rw (hd .len-is) (f .fits);
+        }
 
     links : LinksRead (s .links) xs (payloadEnd xs) headLength (blockBytes (s .loop) ++ tail)
     links = links-back (s .links) xs (payloadEnd xs) headLength (blockBytes (s .loop) ++ tail) (f .links)

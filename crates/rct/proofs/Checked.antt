@@ -1,4 +1,4 @@
--- The checked reading: fine exactly if the plain one is, the length is within the limit and the CRC is right; and so exactly if the bytes begin with a sealed section. Both are frame's, of any table.
+-- The checked reading: fine exactly if the plain one is, section_syntax_indicator is set, the length is within the limit and the CRC is right; and so exactly if the bytes begin with a sealed section. Both are frame's, of any table.
 -- Assumes nothing.
 use mathlib.Core.Path.{_≡_, refl}
 use mathlib.Core.Logic.{_↔_}
@@ -30,15 +30,15 @@ use Rattle.rct.proofs.Accepted.{length-section, shortest-least, rebuilt
 
 -- ---- against the plain reading
 
--- plainly fine, and no longer than d demands
+-- plainly fine, the indicator as d demands it, and no longer than it takes
 abbrev pub Within : Demands → List ℕ → Type 0
 Within = readings.Within rct payloadVerdict
 
--- a reading up to a limit is the plain one, of sections within the limit
+-- a reading by demands is the plain one, of sections that meet them
 pub within-iff : (d : Demands) (xs : List ℕ) → d .most ≤ longest → (reading d xs ≡ Fine) ↔ Within d xs
 within-iff = readings.within-iff rct payloadVerdict
 
--- plainly fine, within the limit, and the stored CRC is the computed one
+-- plainly fine, the indicator set, within the limit, and the stored CRC is the computed one
 abbrev pub Checks : List ℕ → Type 0
 Checks = readings.Checks rct payloadVerdict
 

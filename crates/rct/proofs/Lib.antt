@@ -4,4 +4,5 @@ pub mod Links
 pub mod Accepted
 pub mod Checked
 pub mod Listed
+pub mod Rows
 pub mod Unique

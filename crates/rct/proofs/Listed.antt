@@ -1,20 +1,20 @@
--- Which numbers a reading of the section can answer at all: the plain one 1 to 19, the checked one also 20; 28 only where the
--- limit is below what section_length tells. So neither 27 nor, plainly, 28.
+-- Which numbers a reading of the section can answer at all: the plain one 1 to 19, the checked one also 20 and 38; 28 only where
+-- the limit is below what section_length tells. So neither 27 nor, plainly, 28 and 38.
 -- Assumes nothing.
-use Prim.Native.Nat.{ℕ, zero, suc, _≤_}
+use Prim.Native.Nat.{ℕ, zero, suc}
 use mathlib.Core.Path.{_≡_, refl}
+use mathlib.Core.Logic.{_↔_}
 use mathlib.Core.List.{List, [], _∷_, _++_}
-use native.Mathlib.Omega.{arith}
-use Rattle.wire.specs.Lengths.{longest, blockEnd}
-use Rattle.wire.specs.Refusals.{tooShort, notRct, wrongLength, entryCut, linkTooLong, loopCut, loopTooLong, sectionSlack, wrongCrc, noSuchNumber, sectionTooLong}
+use Rattle.wire.specs.Lengths.{blockEnd}
+use Rattle.wire.specs.Refusals.{tooShort, notRct, wrongLength, entryCut, linkTooLong, loopCut, loopTooLong, sectionSlack, wrongCrc, noSuchNumber, sectionTooLong, noSyntaxIndicator}
 use Rattle.wire.specs.Verdict.{bad}
-use Rattle.wire.proofs.Among.{Among, among-fine, among-row, among-then, among-more, among-never, block-listed, last-listed}
+use Rattle.wire.proofs.Among.{Among, among-fine, among-row, among-then, among-more, Never, among-never, block-listed, last-listed}
 use Rattle.link.proofs.Listed.{bodyReading, body-listed}
-use Rattle.frame.specs.Reading.{payloadEnd, plainDemands, checkedDemands, readingBy, checkedBy}
-use Rattle.frame.specs.declared.Demands.{Demands}
-use Rattle.frame.proofs.Listed.{opening, limitedOpening, limited-listed, opening-listed, limit-reaches, crc-listed}
+use Rattle.frame.specs.Reading.{payloadEnd}
+use Rattle.frame.proofs.Listed.{plain-among, checked-among, limited-among}
+use Rattle.frame.proofs.Indicator.{Unindicated, unindicated-iff}
 use Rattle.rct.specs.Syntax.{headLength, rct}
-use Rattle.rct.specs.Reading.{bodyIn, countAt, loopPlace, entryVerdict, linksVerdict, payloadVerdict, reading, plain, numberRow, checked}
+use Rattle.rct.specs.Reading.{bodyIn, countAt, loopPlace, entryVerdict, linksVerdict, payloadVerdict, plain, numberRow, checked}
 
 -- 4 to 16, of one entry
 abbrev pub entryReading : List ℕ
@@ -24,9 +24,9 @@ entryReading = entryCut ∷ linkTooLong ∷ bodyReading
 abbrev pub plainReading : List ℕ
 plainReading = tooShort ∷ notRct ∷ wrongLength ∷ (entryReading ++ loopCut ∷ loopTooLong ∷ sectionSlack ∷ [])
 
--- to 20
+-- to 20, and 38
 abbrev pub checkedReading : List ℕ
-checkedReading = plainReading ++ wrongCrc ∷ []
+checkedReading = plainReading ++ wrongCrc ∷ noSyntaxIndicator ∷ []
 
 -- and 28, by a limit
 abbrev pub limitedReading : List ℕ
@@ -51,33 +51,27 @@ payload-listed xs =
 
 -- ---- the readings
 
--- by demands that take every length which 12 bits tell
-pub reading-listed : (d : Demands) (xs : List ℕ) → longest ≤ d .most → Among plainReading (reading d xs)
-unfolding readingBy
-reading-listed d xs h = among-then plainReading _ _ (among-more (opening rct) plainReading _ refl (opening-listed rct d xs h)) (payload-listed xs)
-
 pub plain-listed : (xs : List ℕ) → Among plainReading (plain xs)
-plain-listed xs = reading-listed plainDemands xs (omega arith)
+plain-listed = plain-among rct payloadVerdict plainReading payload-listed refl
 
--- 28 is no answer of the plain reading
-pub plain-never-28 : (xs : List ℕ) (f g : ℕ) → plain xs ≡ bad sectionTooLong f g → ⊥
+-- neither 28 nor 38 is an answer of the plain reading
+pub plain-never-28 : (xs : List ℕ) → Never sectionTooLong (plain xs)
 plain-never-28 xs = among-never plainReading (plain xs) sectionTooLong (plain-listed xs) refl
 
--- the limit is not below the field's, so the checked reading's last is 20
+pub plain-never-38 : (xs : List ℕ) → Never noSyntaxIndicator (plain xs)
+plain-never-38 xs = among-never plainReading (plain xs) noSyntaxIndicator (plain-listed xs) refl
+
+-- the limit is not below the field's, so the checked reading answers 38 and 20 besides
 pub checked-listed : (xs : List ℕ) → Among checkedReading (checked xs)
-unfolding checkedBy
-checked-listed xs =
-    among-then checkedReading _ _ (among-more plainReading checkedReading _ refl (reading-listed checkedDemands xs limit-reaches))
-    (among-more (wrongCrc ∷ []) checkedReading _ refl (crc-listed xs (payloadEnd xs)))
+checked-listed = checked-among rct payloadVerdict plainReading payload-listed checkedReading refl refl refl
 
 -- whatever the limit is
 pub checked-limited : (xs : List ℕ) → Among limitedReading (checked xs)
-unfolding checkedBy readingBy
-checked-limited xs =
-    among-then limitedReading _ _
-    (among-then limitedReading _ _ (among-more (limitedOpening rct) limitedReading _ refl (limited-listed rct checkedDemands xs))
-    (among-more plainReading limitedReading _ refl (payload-listed xs)))
-    (among-more (wrongCrc ∷ []) limitedReading _ refl (crc-listed xs (payloadEnd xs)))
+checked-limited = limited-among rct payloadVerdict plainReading payload-listed limitedReading refl refl refl
+
+-- 38 exactly if a section of the table is there and its indicator is not set, whatever else is wrong
+pub checked-unindicated : (xs : List ℕ) (f g : ℕ) → (checked xs ≡ bad noSyntaxIndicator f g) ↔ Unindicated rct payloadVerdict xs f g
+checked-unindicated xs = unindicated-iff rct payloadVerdict xs refl (among-never plainReading _ noSyntaxIndicator (payload-listed xs) refl)
 
 -- ---- no such link
 

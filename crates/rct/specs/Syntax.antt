@@ -9,7 +9,7 @@ use Rattle.wire.specs.Lengths.{longest, Block, BlockFits, blockBytes}
 use Rattle.wire.specs.Refusals.{notRct}
 use Rattle.link.specs.Syntax.{Link, LinkFits, linkBody, entryOf}
 use Rattle.section_header.specs.Syntax.{frontLength, headerBytes, HeaderFits, newHeader}
-use Rattle.frame.specs.Syntax.{uncounted, crcLength, withCrc}
+use Rattle.frame.specs.Syntax.{uncounted, crcLength, withCrc, Indicated}
 use Rattle.frame.specs.declared.Demands.{Demands}
 use Rattle.frame.specs.declared.Table.{Table}
 use Rattle.rct.specs.declared.RctHeader.{RctHeader}
@@ -99,4 +99,5 @@ pub record Fits (d : Demands) (s : Section) : Type 0 where
   pub count : length (s .links) < 256
   pub links : LinksFit (s .links)
   pub loop : BlockFits (s .loop)
+  pub indicated : Indicated d (s .header .section)
   pub fits : sectionLength s ≤ d .most

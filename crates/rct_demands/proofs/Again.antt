@@ -153,9 +153,9 @@ module _ (xs : List ℕ) (b : Bytes xs) (v : plain xs ≡ Fine) where
 
 -- ---- the header and the loop
 
-pub make-again : (xs : List ℕ) (b : Bytes xs) → plain xs ≡ Fine → (zs : List ℕ) → madeAgain zs xs ≡ made zs Fine (bare (sectionAt xs .header) (sectionAt xs .loop))
+pub make-again : (xs : List ℕ) (b : Bytes xs) → plain xs ≡ Fine → headerAt xs .«section_syntax_indicator» ≡ true → (zs : List ℕ) → madeAgain zs xs ≡ made zs Fine (bare (sectionAt xs .header) (sectionAt xs .loop))
 unfolding making sectionAt sectionRead
-make-again xs b v zs = rw (v, passes)
+make-again xs b v i zs = rw (v, passes)
   where
     a : Accepted plainDemands xs
     a = accepted plainDemands xs b v
@@ -165,6 +165,6 @@ make-again xs b v zs = rw (v, passes)
 
     passes : checkMaking (rctHeaderAt xs) (besideAt xs (loopPlace xs)) (length xs) (record { start = loopPlace xs + 2; length = lengthAt xs (loopPlace xs) }) ≡ Fine
     passes = unfold checkMaking checkLoop in
-        fine-then _ _ (header-pass (headerAt xs) (record { reserved1 = f .header .section .reserved1; version = f .header .section .version; reserved5 = f .header .section .reserved5 }))
+        fine-then _ _ (header-pass (headerAt xs) (record { indicated = i; narrow = record { reserved1 = f .header .section .reserved1; version = f .header .section .version; reserved5 = f .header .section .reserved5 } }))
         (fine-then _ _ (fine-then _ _ (field-pass loopLength _ (length-short xs (loopPlace xs) b)) (field-pass loopLengthReserved _ (beside-narrow xs (loopPlace xs) b)))
         (range-pass xs (record { start = loopPlace xs + 2; length = lengthAt xs (loopPlace xs) }) (omega (arith, a .loop-end, a .frame .within))))

@@ -2,6 +2,7 @@
 pub mod TwoDesks
 pub mod ReadBack
 pub mod Rebuilt
+pub mod Indicator
 -- what they stand on
 pub mod Answers
 pub mod Edits

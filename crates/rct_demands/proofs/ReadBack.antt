@@ -6,7 +6,7 @@ use native.Mathlib.Omega.{arith}
 use mathlib.Core.List.{List}
 use lib.ListN.{length}
 use Rattle.wire.specs.Lists.{Bytes}
-use Rattle.wire.specs.Lengths.{Block, BlockFits}
+use Rattle.wire.specs.Lengths.{Block}
 use Rattle.wire.specs.declared.verdict.Verdict.the-variants.{Fine}
 use Rattle.wire.proofs.Lists.{bytes-part}
 use Rattle.link.specs.Syntax.{Link, LinkFits}
@@ -18,14 +18,14 @@ use Rattle.link_draft.specs.Checks.{checkLink}
 use Rattle.link_draft.proofs.Exact.{check-fits}
 use Rattle.link_draft.proofs.Sizes.{range-length}
 use Rattle.rct.specs.declared.RctHeader.{RctHeader}
-use Rattle.rct.specs.Syntax.{Section, RctHeaderFits}
+use Rattle.rct.specs.Syntax.{Section}
 use Rattle.rct.specs.Reading.{numberRow, countAt, sectionAt, checked}
 use Rattle.rct.proofs.Checked.{count-is, number-passed}
 use Rattle.rct_edit.specs.Edit.{bare, withLink, withNext, written, fresh, replaceVerdict, Outcome}
 use Rattle.rct_edit.specs.Making.{checkMaking, HeaderCarried, loopOf}
 use Rattle.rct_edit.specs.Calls.{making, appending, replacing}
-use Rattle.rct_edit.proofs.Calls.{Stepped, edit-passed, replaced-verdict, appended-verdict, replace-checked, append-checked, replaced-stepped, appended-stepped, made-stepped}
-use Rattle.rct_edit.proofs.Narrow.{header-narrow, loop-narrow}
+use Rattle.rct_edit.proofs.Calls.{Stepped, Parts, edit-passed, replaced-verdict, appended-verdict, replace-checked, append-checked, replaced-stepped, appended-stepped, made-stepped}
+use Rattle.rct_edit.proofs.Narrow.{header-written, loop-narrow}
 use Rattle.rct_edit.proofs.Records.{length-with, length-next}
 use Rattle.rct_edit.proofs.ReadsBack.{ReadsBack, made-back, replaced-back, replaced-named, replaced-others, replaced-count, appended-back, appended-last, appended-others, appended-count, fresh-behind}
 use Rattle.rct_demands.specs.Back.{checkedRead, MadeBack, SectionKept, ReplacedBack, AppendedBack}
@@ -48,13 +48,16 @@ made-reads-back xs h beside t d bt c a =
     s : Section
     s = bare h (loopOf beside t d)
 
-    good : checkMaking h beside (length t) d ≡ Fine → RctHeaderFits h × BlockFits (loopOf beside t d)
+    good : checkMaking h beside (length t) d ≡ Fine → Parts h (loopOf beside t d)
     good e =
-        let n = header-narrow h beside t d e in
-        let l = loop-narrow h beside t d e in (
-          record { section = record { reserved1 = n .reserved1; extension = c .extension; reserved5 = n .reserved5; version = n .version; number = c .number; last = c .last }; year = c .year },
-          record { narrow = l .narrow; short = rw (range-length t d (l .within)) (l .short); bytes = bytes-part t (d .start) (d .length) bt },
-        )
+        let w = header-written h beside t d e in
+        let n = w .narrow in
+        let l = loop-narrow h beside t d e in
+        record {
+          header = record { section = record { reserved1 = n .reserved1; extension = c .extension; reserved5 = n .reserved5; version = n .version; number = c .number; last = c .last }; year = c .year };
+          indicated = w .indicated;
+          loop = record { narrow = l .narrow; short = rw (range-length t d (l .within)) (l .short); bytes = bytes-part t (d .start) (d .length) bt };
+        }
 
     reads : ReadsBack s (making xs h beside t d)
     reads = made-back xs (checkMaking h beside (length t) d) h (loopOf beside t d) good a

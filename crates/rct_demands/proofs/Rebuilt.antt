@@ -1,8 +1,9 @@
--- Demand 2, rebuilt: what the reading calls answer of an accepted section, handed to making and to appending in any buffer with room, gives its bytes again.
+-- Demand 2, rebuilt: what the reading calls answer of an accepted section with the syntax indicator set, handed to making and to appending in any buffer with room, gives its bytes again.
 -- Assumes nothing.
 use Prim.Native.Nat.{ℕ, _≤_, _<_}
 use mathlib.Core.Path.{_≡_, sym, ap, _∙_}
 use native.Mathlib.Omega.{arith}
+use mathlib.Core.Bool.{true}
 use mathlib.Core.List.{List, _++_, append-assoc}
 use lib.ListN.{length, take, drop, getD, length-take, List·getD-append}
 use lib.Seq.{getD-take}
@@ -11,8 +12,10 @@ use Rattle.wire.specs.Numbers.{bytes32}
 use Rattle.wire.specs.declared.verdict.Verdict.the-variants.{Fine}
 use Rattle.crc.specs.Crc.{crcOf}
 use Rattle.link.specs.declared.reading.LinkRead.{LinkRead}
+use Rattle.section_header.specs.Reading.{headerAt}
 use Rattle.frame.specs.Syntax.{uncounted, limit}
 use Rattle.frame.specs.Reading.{plainDemands, declared, payloadEnd, totalOf}
+use Rattle.rct.specs.declared.RctHeader.{RctHeader}
 use Rattle.rct.specs.Syntax.{Fits}
 use Rattle.rct.specs.Reading.{countAt, sectionAt, plain}
 use Rattle.rct.proofs.Accepted.{Accepted, accepted, accepted-fits}
@@ -33,8 +36,10 @@ total-same xs ys e h l = rw (at 1 (omega arith), at 2 (omega arith))
     at : (i : ℕ) → i < e → getD (take e xs ++ ys) i 0 ≡ getD xs i 0
     at i u = List·getD-append (take e xs) ys 0 i (simp length-take (omega arith)) ∙ getD-take e xs i 0 u
 
-pub rebuilt-section : (xs zs : List ℕ) → Bytes xs → plainRead xs .verdict ≡ Fine → declared xs ≤ limit → totalOf xs ≤ length zs → RebuiltSection xs zs
-rebuilt-section xs zs b p l r =
+-- of an accepted section whose syntax indicator is set
+pub rebuilt-section : (xs zs : List ℕ) → Bytes xs → plainRead xs .verdict ≡ Fine → plainRead xs .header .section .«section_syntax_indicator» ≡ true
+    → declared xs ≤ limit → totalOf xs ≤ length zs → RebuiltSection xs zs
+rebuilt-section xs zs b p i l r =
     record {
       links-read = λ k h. ap (λ (n : LinkRead). n .verdict) (link-answer xs b k v (omega (arith, counted)));
       none-refused = rw counted (all .accepted);
@@ -47,6 +52,9 @@ rebuilt-section xs zs b p l r =
   where
     v : plain xs ≡ Fine
     v = sym (read-verdict (plain xs) xs) ∙ p
+
+    set : headerAt xs .«section_syntax_indicator» ≡ true
+    set = unfold sectionAt in sym (ap (λ (h : RctHeader). h .section .«section_syntax_indicator») (answers xs (plain xs) v .header)) ∙ i
 
     a : Accepted plainDemands xs
     a = accepted plainDemands xs b v
@@ -61,13 +69,13 @@ rebuilt-section xs zs b p l r =
     start = made zs Fine (bare (sectionAt xs .header) (sectionAt xs .loop))
 
     again : madeAgain zs xs ≡ start
-    again = make-again xs b v zs
+    again = make-again xs b v set zs
 
     old : records.Rebuilt xs zs (sectionAt xs)
-    old = records.rebuilt xs zs b v l r
+    old = records.rebuilt xs zs b v set l r
 
     first : Held (madeAgain zs xs)
-    first = rw again (stepped-held _ _ _ start (made-stepped zs Fine (sectionAt xs .header) (sectionAt xs .loop) (λ e. (f .header, f .loop)) (old .made-fine)))
+    first = rw again (stepped-held _ _ _ start (made-stepped zs Fine (sectionAt xs .header) (sectionAt xs .loop) (λ e. record { header = f .header; indicated = unfold sectionAt in set; loop = f .loop }) (old .made-fine)))
 
     all : Ran xs b v (madeAgain zs xs) (countAt xs) 0
     all = ran xs b v (countAt xs) 0 (madeAgain zs xs) (omega arith) first (rw again (unfold sectionAt in old .appended-fine))

@@ -3,6 +3,7 @@
 use mathlib.Core.Path.{_≡_, refl, sym, ap, _∙_}
 use Prim.Native.Nat.{ℕ, _-_, _≤_, _<_}
 use native.Mathlib.Omega.{arith}
+use mathlib.Core.Bool.{true}
 use mathlib.Core.List.{List}
 use lib.ListN.{length, length-append, length-drop, length-replicate}
 use Rattle.wire.specs.Lists.{Bytes}
@@ -186,9 +187,14 @@ module _ (v : Verdict) (l : Link) (good : v ≡ Fine → LinkFits l) (s : Sectio
       rw (can-append c, same)
       (written-stepped s (withNext s l) xs h (next-fits s l (h .fits) (good (c .link)) (c .below) (c .room-for .fit)) (c .room-for .enough))
 
--- ---- making, in any buffer, with a verdict v that lets through only a header and a loop that fit
+-- ---- making, in any buffer, with a verdict v that lets through only a header with the syntax indicator and a loop, that fit
 
-module _ (v : Verdict) (h : RctHeader) (b : Block) (good : v ≡ Fine → RctHeaderFits h × BlockFits b) (xs : List ℕ) where
+pub record Parts (h : RctHeader) (b : Block) : Type 0 where
+  pub header : RctHeaderFits h
+  pub indicated : h .section .«section_syntax_indicator» ≡ true
+  pub loop : BlockFits b
+
+module _ (v : Verdict) (h : RctHeader) (b : Block) (good : v ≡ Fine → Parts h b) (xs : List ℕ) where
   pub make-can : makeVerdict (length xs) v (bare h b) ≡ Fine → CanMake (length xs) v (bare h b)
   unfolding makeVerdict
   make-can a =
@@ -207,7 +213,7 @@ module _ (v : Verdict) (h : RctHeader) (b : Block) (good : v ≡ Fine → RctHea
         verdict = refl;
         total = refl;
         buffer = refl;
-        holds = sealed-holds (bare h b) _ (record { header = f .0; count = omega arith; links = tt; loop = f .1; fits = c .room-for .fit });
+        holds = sealed-holds (bare h b) _ (record { header = f .header; count = omega arith; links = tt; loop = f .loop; indicated = λ e. f .indicated; fits = c .room-for .fit });
         size = simp (length-append, length-sealed (bare h b), length-drop) (omega (arith, c .room-for .enough));
       })
 
@@ -234,6 +240,6 @@ module _ (xs : List ℕ) (b : Bytes xs) (v : Verdict) (l : Link) (good : v ≡ F
       let h = checked-holds xs b (append-checked xs v l f) in
       append-stepped v l good (sectionAt xs) xs h (append-can v l good (sectionAt xs) xs h f)
 
-pub made-stepped : (xs : List ℕ) (v : Verdict) (h : RctHeader) (b : Block) → (v ≡ Fine → RctHeaderFits h × BlockFits b) → made xs v (bare h b) .verdict ≡ Fine
+pub made-stepped : (xs : List ℕ) (v : Verdict) (h : RctHeader) (b : Block) → (v ≡ Fine → Parts h b) → made xs v (bare h b) .verdict ≡ Fine
     → Stepped (bare h b) (fresh xs (bare h b)) xs (made xs v (bare h b))
 made-stepped xs v h b good a = make-stepped v h b good xs (make-can v h b good xs (sym (made-verdict xs v (bare h b)) ∙ a))

@@ -1,5 +1,5 @@
--- Which numbers making, appending and replacing can answer at all: making 22, 25, 28, 29; appending 1 to 20, 30, 22 to 25, 28,
--- 29; replacing the same with 21 for 30. So 27 is no answer.
+-- Which numbers making, appending and replacing can answer at all: making 38, 22, 25, 28, 29; appending 1 to 20, 38, 30, 22 to 25,
+-- 28, 29; replacing the same with 21 for 30. So 27 is no answer.
 -- Assumes nothing.
 use Prim.Native.Nat.{ℕ}
 use mathlib.Core.Path.{_≡_, refl}
@@ -13,7 +13,7 @@ use Rattle.field.proofs.Checks.{field-listed}
 use Rattle.link.specs.declared.LinkInfo.{LinkInfo}
 use Rattle.link.specs.declared.Range.{Range}
 use Rattle.link_draft.proofs.Listed.{linkChecks, check-listed, range-listed}
-use Rattle.section_header.proofs.HeaderLaws.{header-listed}
+use Rattle.section_header.proofs.HeaderLaws.{headerChecks, header-listed}
 use Rattle.rct.specs.declared.RctHeader.{RctHeader}
 use Rattle.rct.specs.Syntax.{Section}
 use Rattle.rct.proofs.Listed.{checkedReading, checked-listed, number-listed}
@@ -34,7 +34,7 @@ room-listed room len = among-then roomNumbers _ _ (among-row roomNumbers _ secti
 -- ---- making
 
 abbrev pub makingChecks : List ℕ
-makingChecks = tooWide ∷ pastText ∷ []
+makingChecks = headerChecks ++ pastText ∷ []
 
 abbrev pub makingNumbers : List ℕ
 makingNumbers = makingChecks ++ roomNumbers
@@ -42,7 +42,7 @@ makingNumbers = makingChecks ++ roomNumbers
 pub checks-listed : (h : RctHeader) (beside have : ℕ) (d : Range) → Among makingChecks (checkMaking h beside have d)
 unfolding checkMaking checkLoop
 checks-listed h beside have d =
-    among-then makingChecks _ _ (among-more (tooWide ∷ []) makingChecks _ refl (header-listed (h .section)))
+    among-then makingChecks _ _ (among-more headerChecks makingChecks _ refl (header-listed (h .section)))
     (among-then makingChecks _ _ (among-more (tooWide ∷ []) makingChecks _ refl (among-then (tooWide ∷ []) _ _ (field-listed _ _) (field-listed _ _)))
     (among-more (pastText ∷ []) makingChecks _ refl (range-listed have d)))
 

@@ -1,19 +1,20 @@
--- Document 01's order of making's refusals, in its own words: "Making: 22, 25, 28, 29", and of several fields too wide the
--- lowest place answers. Of each refusal exactly when it is answered.
+-- The order of making's refusals: request 102's 38, "first of all", then in document 01's own words "22, 25, 28, 29", and of several
+-- fields too wide the lowest place answers. Of each refusal exactly when it is answered.
 -- Assumes nothing.
 use Prim.Native.Nat.{ℕ, _+_, _<_}
 use mathlib.Core.Path.{_≡_, refl, sym, ap, _∙_}
 use mathlib.Core.Logic.{_↔_}
-use mathlib.Core.Bool.{false}
+use mathlib.Core.Bool.{Bool, true, false, not}
 use mathlib.Core.List.{List, [], _∷_}
 use native.Mathlib.Omega.{arith}
 use lib.ListN.{length}
-use Rattle.wire.specs.Refusals.{tooWide, pastText, sectionTooLong, noRoom}
-use Rattle.wire.specs.Verdict.{bad, _▷_}
+use borrow.Author.Tests.{not-true}
+use Rattle.wire.specs.Refusals.{tooWide, pastText, sectionTooLong, noRoom, noSyntaxIndicator}
+use Rattle.wire.specs.Verdict.{bad, refuse, _▷_}
 use Rattle.wire.specs.declared.verdict.Verdict.{Verdict}
 use Rattle.wire.specs.declared.verdict.Verdict.the-variants.{Fine}
-use Rattle.wire.proofs.Among.{listed, Among, Never, among-never, never-past, never-behind}
-use Rattle.wire.proofs.Verdicts.{then-fine, fine-then, then-assoc, go-on, stop, row-says, broken-ltb, break-ltb}
+use Rattle.wire.proofs.Among.{listed, Among, among-row, Never, among-never, never-then, never-past, never-behind}
+use Rattle.wire.proofs.Verdicts.{then-fine, fine-then, then-assoc, go-on, stop, row-says, row-broken, broken-ltb, break-ltb, due-passed, due-pass, due-broken}
 use Rattle.field.specs.Fields.{sectionReserved, versionNumber, versionReserved, loopLength, loopLengthReserved, checkField}
 use Rattle.link.specs.declared.Range.{Range}
 use Rattle.link_draft.specs.Carried.{Each, Within}
@@ -50,8 +51,12 @@ ranks-rise h beside d = (omega arith, (omega arith, (omega arith, (omega arith, 
 nothing-first : (v : Verdict) → Fine ▷ v ≡ v
 nothing-first v = go-on Fine v refl
 
--- the checks are the rows of that list, then the range's
-checks-rows : (h : RctHeader) (beside have : ℕ) (d : Range) → checkMaking h beside have d ≡ firstIn checkNumbered (madeFields h beside d) ▷ checkRange have d
+-- the syntax indicator
+abbrev pub indicatorRow : RctHeader → Verdict
+indicatorRow h = refuse (not (h .section .«section_syntax_indicator»)) noSyntaxIndicator 0 0
+
+-- the checks are that row, the rows of the list, then the range's
+checks-rows : (h : RctHeader) (beside have : ℕ) (d : Range) → checkMaking h beside have d ≡ indicatorRow h ▷ (firstIn checkNumbered (madeFields h beside d) ▷ checkRange have d)
 unfolding checkMaking checkHeader checkLoop firstIn
 checks-rows h beside have d = simp (then-assoc, nothing-first)
 
@@ -73,19 +78,63 @@ module _ (xs : List ℕ) (h : RctHeader) (beside : ℕ) (t : List ℕ) (d : Rang
   abbrev room : Verdict
   room = roomRows (length xs) (sectionLength new)
 
-  verdict-is : making xs h beside t d .verdict ≡ (widths ▷ range) ▷ room
+  -- the header's indicator, and its row
+  abbrev indicator : Bool
+  indicator = h .section .«section_syntax_indicator»
+
+  abbrev row : Verdict
+  row = indicatorRow h
+
+  abbrev checks : Verdict
+  checks = row ▷ (widths ▷ range)
+
+  verdict-is : making xs h beside t d .verdict ≡ checks ▷ room
   verdict-is = making-verdict xs h beside t d ∙ ap (λ v. v ▷ room) (checks-rows h beside (length t) d)
 
   widths-listed : Among (tooWide ∷ []) widths
   unfolding checkField
   widths-listed = only-listed (tooWide ∷ []) tooWide widths refl (only-first tooWide checkNumbered (λ p. only-row _ tooWide _ _) fields)
 
+  widths-never : (n : ℕ) → listed n (tooWide ∷ []) ≡ false → Never n widths
+  widths-never n e = among-never (tooWide ∷ []) widths n widths-listed e
+
+  range-never : (n : ℕ) → listed n (pastText ∷ []) ≡ false → Never n range
+  range-never n e = among-never (pastText ∷ []) range n (range-listed (length t) d) e
+
   room-never : (n : ℕ) → listed n roomNumbers ≡ false → Never n room
   room-never n e = among-never roomNumbers room n (room-listed _ _) e
 
-  -- 22 (p, n): of the fields the first that does not hold its number has the rank p and the number n, whatever else is
-  -- wrong; so each field of a lower rank holds its own
+  row-never : (n : ℕ) → listed n (noSyntaxIndicator ∷ []) ≡ false → Never n row
+  row-never n e = among-never (noSyntaxIndicator ∷ []) row n (among-row (noSyntaxIndicator ∷ []) _ noSyntaxIndicator 0 0 refl) e
+
+  row-passed : row ≡ Fine → indicator ≡ true
+  row-passed e = due-passed true indicator _ _ _ e refl
+
+  row-pass : indicator ≡ true → row ≡ Fine
+  row-pass e = due-pass true indicator _ _ _ (λ u. e)
+
+  -- 38 (f, g): the header's syntax indicator is not set, whatever else is wrong
+  pub record MadeUnindicated (f g : ℕ) : Type 0 where
+    pub clear : indicator ≡ false
+    pub figures : (f ≡ 0) × (g ≡ 0)
+
+  pub making-unindicated : (f g : ℕ) → (making xs h beside t d .verdict ≡ bad noSyntaxIndicator f g) ↔ MadeUnindicated f g
+  making-unindicated f g = rw verdict-is (to, from)
+    where
+      to : checks ▷ room ≡ bad noSyntaxIndicator f g → MadeUnindicated f g
+      to e =
+          let a = never-behind noSyntaxIndicator f g checks room (room-never noSyntaxIndicator refl) e in
+          let b = never-behind noSyntaxIndicator f g row (widths ▷ range) (never-then noSyntaxIndicator widths range (widths-never noSyntaxIndicator refl) (range-never noSyntaxIndicator refl)) a in
+          let says = row-says _ _ _ _ _ f g b .1 in
+          record { clear = not-true indicator (row-broken _ _ _ _ _ f g b); figures = (sym (says .0), sym (says .1)) }
+
+      from : MadeUnindicated f g → checks ▷ room ≡ bad noSyntaxIndicator f g
+      from w = rw (w .figures .0, w .figures .1) (stop checks room _ _ _ (stop row (widths ▷ range) _ _ _ (due-broken true indicator _ _ _ refl (w .clear))))
+
+  -- 22 (p, n): it is set, and of the fields the first that does not hold its number has the rank p and the number n, whatever
+  -- else is wrong; so each field of a lower rank holds its own
   pub record MadeTooWide (p n : ℕ) : Type 0 where
+    pub indicated : indicator ≡ true
     pub it : Numbered
     pub first : First Held fields it
     pub rank : it .field .rank ≡ p
@@ -96,21 +145,22 @@ module _ (xs : List ℕ) (h : RctHeader) (beside : ℕ) (t : List ℕ) (d : Rang
   unfolding checkField
   making-wide p n = rw verdict-is (to, from)
     where
-      to : (widths ▷ range) ▷ room ≡ bad tooWide p n → MadeTooWide p n
+      to : checks ▷ room ≡ bad tooWide p n → MadeTooWide p n
       to e =
-          let a = never-behind tooWide p n (widths ▷ range) room (room-never tooWide refl) e in
-          let b = never-behind tooWide p n widths range (among-never (pastText ∷ []) range tooWide (range-listed (length t) d) refl) a in
+          let a = never-past tooWide p n row (widths ▷ range) (row-never tooWide refl) (never-behind tooWide p n checks room (room-never tooWide refl) e) in
+          let b = never-behind tooWide p n widths range (range-never tooWide refl) (a .1) in
           let f = first-told checkNumbered numbered-passed numbered-pass fields _ b in
           let says = row-says _ tooWide _ _ tooWide p n (f .told) .1 in
-          record { it = f .it; first = f .first; rank = says .0; number = says .1; lower = rw (says .0) at (lower-first 20 24 fields (f .it) (ranks-rise h beside d) (f .first)) }
+          record { indicated = row-passed (a .0); it = f .it; first = f .first; rank = says .0; number = says .1; lower = rw (says .0) at (lower-first 20 24 fields (f .it) (ranks-rise h beside d) (f .first)) }
 
-      from : MadeTooWide p n → (widths ▷ range) ▷ room ≡ bad tooWide p n
+      from : MadeTooWide p n → checks ▷ room ≡ bad tooWide p n
       from w =
           let own : checkNumbered (w .it) ≡ bad tooWide p n = rw (← w .rank, ← w .number) (row-refuses _ tooWide _ _ (λ e. w .first .bad (numbered-passed (w .it) e))) in
-          stop (widths ▷ range) room _ _ _ (stop widths range _ _ _ (first-tells checkNumbered numbered-passed numbered-pass fields (w .it) _ (w .first) own))
+          stop checks room _ _ _ (go-on row _ (row-pass (w .indicated)) ∙ stop widths range _ _ _ (first-tells checkNumbered numbered-passed numbered-pass fields (w .it) _ (w .first) own))
 
-  -- 25 (f, g): each field holds its number, and the descriptors are a range past the text
+  -- 25 (f, g): it is set, each field holds its number, and the descriptors are a range past the text
   pub record MadePastText (f g : ℕ) : Type 0 where
+    pub indicated : indicator ≡ true
     pub narrow : Each Held fields
     pub past : length t < d .start + d .length
     pub figures : (f ≡ d .start) × (g ≡ d .length)
@@ -119,40 +169,44 @@ module _ (xs : List ℕ) (h : RctHeader) (beside : ℕ) (t : List ℕ) (d : Rang
   unfolding checkRange
   making-past f g = rw verdict-is (to, from)
     where
-      to : (widths ▷ range) ▷ room ≡ bad pastText f g → MadePastText f g
+      to : checks ▷ room ≡ bad pastText f g → MadePastText f g
       to e =
-          let a = never-behind pastText f g (widths ▷ range) room (room-never pastText refl) e in
-          let b = never-past pastText f g widths range (among-never (tooWide ∷ []) widths pastText widths-listed refl) a in
+          let a = never-past pastText f g row (widths ▷ range) (row-never pastText refl) (never-behind pastText f g checks room (room-never pastText refl) e) in
+          let b = never-past pastText f g widths range (widths-never pastText refl) (a .1) in
           let says = row-says _ _ _ _ _ f g (b .1) .1 in
-          record { narrow = each-passed checkNumbered numbered-passed fields (b .0); past = broken-ltb _ _ _ _ _ _ f g (b .1); figures = (sym (says .0), sym (says .1)) }
+          record { indicated = row-passed (a .0); narrow = each-passed checkNumbered numbered-passed fields (b .0); past = broken-ltb _ _ _ _ _ _ f g (b .1); figures = (sym (says .0), sym (says .1)) }
 
-      from : MadePastText f g → (widths ▷ range) ▷ room ≡ bad pastText f g
+      from : MadePastText f g → checks ▷ room ≡ bad pastText f g
       from w =
           rw (w .figures .0, w .figures .1)
-          (stop (widths ▷ range) room _ _ _ (go-on widths range (each-pass checkNumbered numbered-pass fields (w .narrow)) ∙ break-ltb _ _ _ _ _ (w .past)))
+          (stop checks room _ _ _ (go-on row _ (row-pass (w .indicated)) ∙ go-on widths range (each-pass checkNumbered numbered-pass fields (w .narrow)) ∙ break-ltb _ _ _ _ _ (w .past)))
 
-  -- what stands before 28: each field holds its number, and the descriptors are a range of the text
+  -- what stands before 28: it is set, each field holds its number, and the descriptors are a range of the text
   pub record MadeReady : Type 0 where
+    pub indicated : indicator ≡ true
     pub narrow : Each Held fields
     pub within : Within t d
 
-  ready : widths ▷ range ≡ Fine → MadeReady
-  ready e = let two = then-fine widths range e in record { narrow = each-passed checkNumbered numbered-passed fields (two .0); within = range-passed t d (two .1) }
+  ready : checks ≡ Fine → MadeReady
+  ready e =
+      let one = then-fine row (widths ▷ range) e in
+      let two = then-fine widths range (one .1) in
+      record { indicated = row-passed (one .0); narrow = each-passed checkNumbered numbered-passed fields (two .0); within = range-passed t d (two .1) }
 
-  ready-back : MadeReady → widths ▷ range ≡ Fine
-  ready-back r = fine-then widths range (each-pass checkNumbered numbered-pass fields (r .narrow)) (range-pass t d (r .within))
+  ready-back : MadeReady → checks ≡ Fine
+  ready-back r = fine-then row _ (row-pass (r .indicated)) (fine-then widths range (each-pass checkNumbered numbered-pass fields (r .narrow)) (range-pass t d (r .within)))
 
-  checks-never : (n : ℕ) → listed n makingChecks ≡ false → Never n (widths ▷ range)
+  checks-never : (n : ℕ) → listed n makingChecks ≡ false → Never n checks
   checks-never n e = among-never makingChecks _ n (rw (← checks-rows h beside (length t) d) (checks-listed h beside (length t) d)) e
 
   -- 28 (f, g): that is fine, and section_length is above the limit, whatever the room
   pub making-long : (f g : ℕ) → (making xs h beside t d .verdict ≡ bad sectionTooLong f g) ↔ TooLong MadeReady new f g
-  making-long = rw verdict-is (long-iff (widths ▷ range) MadeReady ready ready-back new (length xs) (checks-never sectionTooLong refl))
+  making-long = rw verdict-is (long-iff checks MadeReady ready ready-back new (length xs) (checks-never sectionTooLong refl))
 
   -- 29 (f, g): it is within the limit too, and the room is smaller than the section
   pub making-large : (f g : ℕ) → (making xs h beside t d .verdict ≡ bad noRoom f g) ↔ TooLarge MadeReady new (length xs) f g
-  making-large = rw verdict-is (large-iff (widths ▷ range) MadeReady ready ready-back new (length xs) (checks-never noRoom refl))
+  making-large = rw verdict-is (large-iff checks MadeReady ready ready-back new (length xs) (checks-never noRoom refl))
 
   -- none: all of it is fine
   pub making-fine : (making xs h beside t d .verdict ≡ Fine) ↔ Accepted MadeReady new (length xs)
-  making-fine = rw verdict-is (fine-iff (widths ▷ range) MadeReady ready ready-back new (length xs))
+  making-fine = rw verdict-is (fine-iff checks MadeReady ready ready-back new (length xs))

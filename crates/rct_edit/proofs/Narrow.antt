@@ -13,12 +13,12 @@ use Rattle.field.proofs.Checks.{field-passed}
 use Rattle.rct.specs.declared.RctHeader.{RctHeader}
 use Rattle.rct_edit.specs.Making.{checkLoop, checkMaking, LoopNarrow}
 use Rattle.section_header.specs.Checks.{checkHeader}
-use Rattle.section_header.proofs.HeaderLaws.{Narrow, header-passed}
+use Rattle.section_header.proofs.HeaderLaws.{Written, header-passed}
 
 module _ (h : RctHeader) (beside : ℕ) (t : List ℕ) (d : Range) (e : checkMaking h beside (length t) d ≡ Fine) where
-  pub header-narrow : Narrow (h .section)
+  pub header-written : Written (h .section)
   unfolding checkMaking
-  header-narrow = header-passed (h .section) (then-fine (checkHeader (h .section)) _ e .0)
+  header-written = header-passed (h .section) (then-fine (checkHeader (h .section)) _ e .0)
 
   pub loop-narrow : LoopNarrow beside t d
   unfolding checkMaking checkLoop

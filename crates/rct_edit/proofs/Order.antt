@@ -44,7 +44,7 @@ module _ (xs : List ℕ) (k : ℕ) (t : List ℕ) (i : LinkInfo) where
   number-row : OwnRow (numberRow xs k) There noSuchNumber
   number-row = record { passed = number-passed xs k; pass = number-pass xs k; numbers = number-listed xs k; apart = refl }
 
-  -- 1 to 20: exactly if the checked reading answers it, whatever else is wrong
+  -- 1 to 20 and 38: exactly if the checked reading answers it, whatever else is wrong
   pub replacing-reading : (n f g : ℕ) → listed n checkedReading ≡ true → (replacing xs k t i .verdict ≡ bad n f g) ↔ (checked xs ≡ bad n f g)
   replacing-reading = rw (replacing-verdict xs k t i) (reading-iff xs _ _ replacement There noSuchNumber number-row (check-listed t i))
 
@@ -95,7 +95,7 @@ module _ (xs : List ℕ) (t : List ℕ) (i : LinkInfo) where
   count-row : OwnRow (countRow xs) NotFull noMoreLinks
   count-row = record { passed = passed-leb mostLinks (countAt xs) _ _ _; pass = pass-leb mostLinks (countAt xs) _ _ _; numbers = count-listed xs; apart = refl }
 
-  -- 1 to 20: exactly if the checked reading answers it, whatever else is wrong
+  -- 1 to 20 and 38: exactly if the checked reading answers it, whatever else is wrong
   pub appending-reading : (n f g : ℕ) → listed n checkedReading ≡ true → (appending xs t i .verdict ≡ bad n f g) ↔ (checked xs ≡ bad n f g)
   appending-reading = rw (appending-verdict xs t i) (reading-iff xs _ _ extension NotFull noMoreLinks count-row (check-listed t i))
 

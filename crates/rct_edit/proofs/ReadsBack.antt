@@ -14,12 +14,12 @@ use Rattle.wire.specs.declared.verdict.Verdict.the-variants.{Fine}
 use Rattle.link.specs.Syntax.{Link, LinkFits}
 use Rattle.frame.specs.Reading.{totalOf}
 use Rattle.rct.specs.declared.RctHeader.{RctHeader}
-use Rattle.rct.specs.Syntax.{Section, fullLength, sealed, RctHeaderFits}
+use Rattle.rct.specs.Syntax.{Section, fullLength, sealed}
 use Rattle.rct.specs.Reading.{countAt, sectionAt, checked}
 use Rattle.rct.proofs.Checked.{length-sealed, Known, holds-known, holds-total, count-is}
 use Rattle.rct_edit.specs.Edit.{filler, bare, withLink, withNext, written, fresh, Outcome, replaced, appended, made}
 use Rattle.rct_edit.proofs.Records.{with-named, with-others, length-with, next-last, next-others, length-next}
-use Rattle.rct_edit.proofs.Calls.{Stepped, replaced-stepped, appended-stepped, made-stepped}
+use Rattle.rct_edit.proofs.Calls.{Stepped, Parts, replaced-stepped, appended-stepped, made-stepped}
 
 -- the buffer passes the checked reading, which gives s; the answer is its total
 pub record ReadsBack (s : Section) (o : Outcome) : Type 0 where
@@ -32,7 +32,7 @@ stepped-reads s new old o st =
     let k : Known s (o .buffer) = holds-known s (o .buffer) (st .holds) in
     record { passed = k .passed; same = k .same; total = holds-total s (o .buffer) (st .holds) ∙ sym (st .total) }
 
-pub made-back : (xs : List ℕ) (v : Verdict) (h : RctHeader) (b : Block) → (v ≡ Fine → RctHeaderFits h × BlockFits b) → made xs v (bare h b) .verdict ≡ Fine
+pub made-back : (xs : List ℕ) (v : Verdict) (h : RctHeader) (b : Block) → (v ≡ Fine → Parts h b) → made xs v (bare h b) .verdict ≡ Fine
     → ReadsBack (bare h b) (made xs v (bare h b))
 made-back xs v h b good a = stepped-reads (bare h b) (fresh xs (bare h b)) xs (made xs v (bare h b)) (made-stepped xs v h b good a)
 

@@ -3,6 +3,7 @@
 use mathlib.Core.Path.{_≡_, refl, sym, ap, _∙_}
 use Prim.Native.Nat.{ℕ, _+_, _-_, _≤_, max}
 use native.Mathlib.Omega.{arith}
+use mathlib.Core.Bool.{true}
 use mathlib.Core.List.{List, [], _∷_, _++_, append-assoc, append-nil}
 use lib.ListN.{length, take, drop, length-append, length-drop}
 use lib.Seq.{drop-at, drop-drop}
@@ -11,6 +12,7 @@ use Rattle.wire.specs.Numbers.{bytes32}
 use Rattle.wire.specs.declared.verdict.Verdict.the-variants.{Fine}
 use Rattle.crc.specs.Crc.{crcOf}
 use Rattle.link.specs.Syntax.{Link}
+use Rattle.section_header.specs.Reading.{headerAt}
 use Rattle.frame.specs.Syntax.{limit}
 use Rattle.frame.specs.Reading.{checkedDemands, declared, payloadEnd, totalOf}
 use Rattle.rct.specs.Syntax.{Section, linksBytes, sectionLength, fullLength, sealed, EntryFits, LinksFit, Fits}
@@ -53,6 +55,7 @@ prefix-fits s a b f =
       count = omega (arith, f .count, length-append a b);
       links = prefix-fit a b (f .links);
       loop = f .loop;
+      indicated = f .indicated;
       fits = omega (arith, f .fits, prefix-length s a b);
     }
 
@@ -138,14 +141,14 @@ same : (xs zs : List ℕ) → Bytes xs → reading checkedDemands xs ≡ Fine �
 unfolding fresh sealed
 same xs zs b v = rw (rebuild checkedDemands xs b v, length-is checkedDemands xs b (accepted checkedDemands xs b v))
 
-pub rebuilt : (xs zs : List ℕ) → Bytes xs → plain xs ≡ Fine → declared xs ≤ limit → totalOf xs ≤ length zs → Rebuilt xs zs (sectionAt xs)
-rebuilt xs zs b v l r = record { made-fine = m .verdict; appended-fine = rw (m .buffer) (all .0); bytes = rw (m .buffer) (all .1 ∙ same xs zs b in-limit) }
+pub rebuilt : (xs zs : List ℕ) → Bytes xs → plain xs ≡ Fine → headerAt xs .«section_syntax_indicator» ≡ true → declared xs ≤ limit → totalOf xs ≤ length zs → Rebuilt xs zs (sectionAt xs)
+rebuilt xs zs b v i l r = record { made-fine = m .verdict; appended-fine = rw (m .buffer) (all .0); bytes = rw (m .buffer) (all .1 ∙ same xs zs b in-limit) }
   where
     s : Section
     s = sectionAt xs
 
     in-limit : reading checkedDemands xs ≡ Fine
-    in-limit = within-iff checkedDemands xs (omega arith) .1 (record { plainly = v; limited = l })
+    in-limit = within-iff checkedDemands xs (omega arith) .1 (record { plainly = v; indicated = λ e. i; limited = l })
 
     fits : Fits checkedDemands s
     fits = accepted-fits checkedDemands xs b in-limit
@@ -157,7 +160,7 @@ rebuilt xs zs b v l r = record { made-fine = m .verdict; appended-fine = rw (m .
     first = prefix-fits s [] (s .links) fits
 
     m : Stepped (bare (s .header) (s .loop)) (front s zs []) zs (made zs Fine (bare (s .header) (s .loop)))
-    m = make-stepped Fine (s .header) (s .loop) (λ e. (fits .header, fits .loop)) zs
+    m = make-stepped Fine (s .header) (s .loop) (λ e. record { header = fits .header; indicated = fits .indicated refl; loop = fits .loop }) zs
         (record { parts = refl; room-for = record { fit = first .fits; enough = omega (arith, len, prefix-length s [] (s .links)) } })
 
     all : NoneRefused (front s zs []) (s .links) × (appends (front s zs []) (s .links) ≡ fresh zs s)

@@ -96,6 +96,7 @@ with-fits s k l f e h n =
       count = rw (length-with s k l) (f .count);
       links = unfold withLink in links-fit-set (s .links) k l (record { link = e; short = with-short s k l h n }) (f .links);
       loop = unfold withLink in f .loop;
+      indicated = unfold withLink in f .indicated;
       fits = n;
     }
 
@@ -106,5 +107,6 @@ next-fits s l f e h n =
       count = omega (arith, length-next s l);
       links = unfold withNext in links-fit-more (s .links) l (record { link = e; short = next-short s l n }) (f .links);
       loop = unfold withNext in f .loop;
+      indicated = unfold withNext in f .indicated;
       fits = n;
     }

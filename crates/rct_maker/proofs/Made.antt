@@ -30,7 +30,7 @@ use Rattle.rct_edit.specs.Answers.{refusedWith, acceptedWith}
 use Rattle.rct_edit.specs.Making.{checkMaking, narrowedHeader, LoopNarrow, loopOf}
 use Rattle.rct_edit.specs.Calls.{making}
 use Rattle.rct_edit.specs.declared.Edited.{Edited}
-use Rattle.rct_edit.proofs.Narrow.{header-narrow, loop-narrow}
+use Rattle.rct_edit.proofs.Narrow.{header-written, loop-narrow}
 use Rattle.rct_edit.proofs.Outcomes.{Came, done-stops, done-goes, Roomy, room-passed}
 
 -- ---- the stores
@@ -94,7 +94,7 @@ module _ (xs : List ℕ) (h : RctHeader) (beside : ℕ) (t : List ℕ) (d : Rang
         wide = length-section sectionOf ∙ ap (λ n. uncounted + n) length-made
 
         one : Wrote xs 0 (headBytes h len 0) y1 (0 + headLength)
-        one = copied xs y1 (headBytes h len 0) 0 headLength (e1 ∙ ap (putAt xs 0) (eh ∙ head-whole h len (header-narrow h beside t d c) (omega (arith, room .fit)))) front (omega (arith, room .enough, is))
+        one = copied xs y1 (headBytes h len 0) 0 headLength (e1 ∙ ap (putAt xs 0) (eh ∙ head-whole h len (header-written h beside t d c .narrow) (omega (arith, room .fit)))) front (omega (arith, room .enough, is))
 
         two : Wrote xs 0 (headBytes h len 0 ++ blockBytes (loopOf beside t d)) y2 end
         two = then one e2

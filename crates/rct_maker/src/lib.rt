@@ -60,12 +60,14 @@ fn check_loop(reserved: u16, range: Range) -> Verdict
     )
 }
 
+// 38 and 22 of the header, 22 of the loop, and 25.
 fn check_making(header: RctHeader, reserved: u16, have: usize, range: Range) -> Verdict
     ensures { λ r. ⌜ r ≡ checkMaking header reserved have range ⌝ }
 {
-    let later = first_of(check_loop(reserved, range), check_range(have, range));
     let section = header.section;
-    first_of(section.check(), later)
+    let first = section.check();
+    let later = first_of(check_loop(reserved, range), check_range(have, range));
+    first_of(first, later)
 }
 
 // The bytes before the links, of which there are none.

@@ -25,6 +25,7 @@ use Rattle.frame.specs.declared.Demands.{Demands}
 use Rattle.frame.proofs.Opening.{Opened}
 use Rattle.frame.proofs.Readings as readings
 use Rattle.frame.proofs.Tables as tables
+use Rattle.rnt.specs.declared.RntHeader.{RntHeader}
 use Rattle.rnt.specs.Syntax.{commonPlace, shortest, rnt, Section, providerBytes, headBytes, payload, sectionLength, sectionBytes, sealed, ProviderFits, Fits}
 use Rattle.rnt.specs.Reading.{providerAt, providerPlaces, sectionAt, providerVerdict, commonRow, payloadVerdict, reading, plain, checked}
 use Rattle.rnt.proofs.Head.{head-rebuild, rnt-header-fits, head-bytes, HeadRead, head-back}
@@ -99,6 +100,7 @@ module _ (d : Demands) (xs : List ℕ) (b : Bytes xs) (a : Accepted d xs) where
         header = rnt-header-fits xs b;
         common = block-fits xs commonPlace b (omega (arith, a .common, a .frame .within));
         providers = all .fit;
+        indicated = a .frame .indicated;
         fits = rw length-is (a .frame .limited);
       }
 
@@ -125,7 +127,14 @@ read-from d s xs tail f t hd = (passed, λ i. record { header = hd .header i; co
     size = omega (arith, hd .size, length-append (payload s) tail)
 
     frame : Opened rnt d xs
-    frame = record { id-is = hd .id-is; large = omega (arith, hd .len-is, length-payload s); within = omega (arith, hd .len-is, size); limited = rw (hd .len-is) (f .fits) }
+    frame =
+        record {
+          id-is = hd .id-is;
+          indicated = λ e. ap (λ (h : RntHeader). h .section .«section_syntax_indicator») (hd .header) ∙ f .indicated e;
+          large = omega (arith, hd .len-is, length-payload s);
+          within = omega (arith, hd .len-is, size);
+          limited = rw (hd .len-is) (f .fits);
+        }
 
     common : BlockRead xs commonPlace (s .common) (providers ++ tail)
     common = block-back xs commonPlace (s .common) (providers ++ tail) (f .common) (hd .rest ∙ append-assoc (blockBytes (s .common)) providers tail)
@@ -166,7 +175,8 @@ accepted-iff = tables.accepted-iff rnt payloadVerdict sectionBytes sectionAt Fit
 pub one-section : (d : Demands) (s r : Section) (a b : List ℕ) → d .most ≤ longest → Fits d s → Fits d r → sectionBytes s ++ a ≡ sectionBytes r ++ b → s ≡ r
 one-section = tables.one-section rnt payloadVerdict sectionBytes sectionAt Fits (omega arith) rebuilt back
 
--- fine exactly if the plain reading is, the length is within the limit, and the stored CRC is the computed one
+-- fine exactly if the plain reading is, section_syntax_indicator is set, the length is within the limit, and the stored CRC is the
+-- computed one
 pub checked-iff : (xs : List ℕ) → (checked xs ≡ Fine) ↔ readings.Checks rnt payloadVerdict xs
 checked-iff = readings.checked-iff rnt payloadVerdict
 

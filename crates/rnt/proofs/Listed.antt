@@ -1,18 +1,19 @@
--- Which numbers a reading of the section can answer at all: the plain one 1, 40, 3 and 41 to 46, the checked one also 20; 28 only where the limit is below what section_length tells. By number 21 too.
+-- Which numbers a reading of the section can answer at all: the plain one 1, 40, 3 and 41 to 46, the checked one also 20 and 38; 28 only where the limit is below what section_length tells. By number 21 too.
 -- Assumes nothing.
-use Prim.Native.Nat.{ℕ, _≤_}
+use Prim.Native.Nat.{ℕ}
 use mathlib.Core.Path.{_≡_, refl}
+use mathlib.Core.Logic.{_↔_}
 use mathlib.Core.List.{List, [], _∷_, _++_}
-use native.Mathlib.Omega.{arith}
-use Rattle.wire.specs.Lengths.{longest, longRow}
-use Rattle.wire.specs.Refusals.{tooShort, wrongLength, wrongCrc, noSuchNumber, sectionTooLong, notRnt, commonTooLong, providerCut, providerTooLong, providerNameCut, providerDescriptorsCut, authorityCut}
-use Rattle.wire.proofs.Among.{Among, among-row, among-then, among-more, block-listed}
+use Rattle.wire.specs.Lengths.{longRow}
+use Rattle.wire.specs.Refusals.{tooShort, wrongLength, wrongCrc, noSuchNumber, sectionTooLong, noSyntaxIndicator, notRnt, commonTooLong, providerCut, providerTooLong, providerNameCut, providerDescriptorsCut, authorityCut}
+use Rattle.wire.specs.Verdict.{bad}
+use Rattle.wire.proofs.Among.{Among, among-row, among-then, among-more, Never, among-never, block-listed}
 use Rattle.wire.proofs.RunLaws.{each-listed}
-use Rattle.frame.specs.Reading.{payloadEnd, plainDemands, checkedDemands, readingBy, checkedBy}
-use Rattle.frame.specs.declared.Demands.{Demands}
-use Rattle.frame.proofs.Listed.{opening, limitedOpening, limited-listed, opening-listed, limit-reaches, crc-listed}
+use Rattle.frame.specs.Reading.{payloadEnd}
+use Rattle.frame.proofs.Listed.{plain-among, checked-among, limited-among}
+use Rattle.frame.proofs.Indicator.{Unindicated, unindicated-iff}
 use Rattle.rnt.specs.Syntax.{rnt}
-use Rattle.rnt.specs.Reading.{providerPlaces, authorityPlaces, authorityVerdict, providerHead, providerVerdict, commonRow, payloadVerdict, reading, plain, checked, providerRows, authorityRows}
+use Rattle.rnt.specs.Reading.{providerPlaces, authorityPlaces, authorityVerdict, providerHead, providerVerdict, commonRow, payloadVerdict, plain, checked, providerRows, authorityRows}
 use Rattle.rnt.proofs.Names.{named-listed}
 
 -- 42 to 45, of a provider without its authorities; 46, of an authority
@@ -26,7 +27,7 @@ abbrev pub plainReading : List ℕ
 plainReading = tooShort ∷ notRnt ∷ wrongLength ∷ commonTooLong ∷ (headReading ++ authorityReading)
 
 abbrev pub checkedReading : List ℕ
-checkedReading = plainReading ++ wrongCrc ∷ []
+checkedReading = plainReading ++ wrongCrc ∷ noSyntaxIndicator ∷ []
 
 -- and 28, by a limit
 abbrev pub limitedReading : List ℕ
@@ -56,28 +57,27 @@ payload-listed xs = among-then plainReading _ _ (among-row plainReading _ common
 
 -- ---- the readings
 
-pub reading-listed : (d : Demands) (xs : List ℕ) → longest ≤ d .most → Among plainReading (reading d xs)
-unfolding readingBy
-reading-listed d xs h = among-then plainReading _ _ (among-more (opening rnt) plainReading _ refl (opening-listed rnt d xs h)) (payload-listed xs)
-
 pub plain-listed : (xs : List ℕ) → Among plainReading (plain xs)
-plain-listed xs = reading-listed plainDemands xs (omega arith)
+plain-listed = plain-among rnt payloadVerdict plainReading payload-listed refl
 
--- the limit is not below the field's, so the checked reading's last is 20
+-- neither 28 nor 38 is an answer of the plain reading
+pub plain-never-28 : (xs : List ℕ) → Never sectionTooLong (plain xs)
+plain-never-28 xs = among-never plainReading (plain xs) sectionTooLong (plain-listed xs) refl
+
+pub plain-never-38 : (xs : List ℕ) → Never noSyntaxIndicator (plain xs)
+plain-never-38 xs = among-never plainReading (plain xs) noSyntaxIndicator (plain-listed xs) refl
+
+-- the limit is not below the field's, so the checked reading answers 38 and 20 besides
 pub checked-listed : (xs : List ℕ) → Among checkedReading (checked xs)
-unfolding checkedBy
-checked-listed xs =
-    among-then checkedReading _ _ (among-more plainReading checkedReading _ refl (reading-listed checkedDemands xs limit-reaches))
-    (among-more (wrongCrc ∷ []) checkedReading _ refl (crc-listed xs (payloadEnd xs)))
+checked-listed = checked-among rnt payloadVerdict plainReading payload-listed checkedReading refl refl refl
 
 -- whatever the limit is
 pub checked-limited : (xs : List ℕ) → Among limitedReading (checked xs)
-unfolding checkedBy readingBy
-checked-limited xs =
-    among-then limitedReading _ _
-    (among-then limitedReading _ _ (among-more (limitedOpening rnt) limitedReading _ refl (limited-listed rnt checkedDemands xs))
-    (among-more plainReading limitedReading _ refl (payload-listed xs)))
-    (among-more (wrongCrc ∷ []) limitedReading _ refl (crc-listed xs (payloadEnd xs)))
+checked-limited = limited-among rnt payloadVerdict plainReading payload-listed limitedReading refl refl refl
+
+-- 38 exactly if a section of the table is there and its indicator is not set, whatever else is wrong
+pub checked-unindicated : (xs : List ℕ) (f g : ℕ) → (checked xs ≡ bad noSyntaxIndicator f g) ↔ Unindicated rnt payloadVerdict xs f g
+checked-unindicated xs = unindicated-iff rnt payloadVerdict xs refl (among-never plainReading _ noSyntaxIndicator (payload-listed xs) refl)
 
 -- ---- by number
 

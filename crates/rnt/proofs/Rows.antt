@@ -1,4 +1,4 @@
--- Sections byte by byte: one that is accepted, with its records, and one for each row of request 101 that refuses, with the numbers and figures as the request gives them.
+-- Sections byte by byte: one that is accepted, with its records, and one for each row of request 101 that refuses, with the numbers and figures as the request gives them; then request 102's, of a length that would be refused behind it.
 -- Assumes nothing.
 use Prim.Native.Nat.{ℕ}
 use mathlib.Core.Path.{_≡_, refl}
@@ -8,9 +8,9 @@ use Rattle.wire.specs.Lengths.{longRow, blockRows}
 use Rattle.wire.specs.Runs.{placesTo}
 use Rattle.wire.specs.Verdict.{bad, refuse, _▷_}
 use Rattle.wire.specs.declared.verdict.Verdict.the-variants.{Fine}
-use Rattle.frame.specs.Reading.{opened, readingBy}
+use Rattle.frame.specs.Reading.{opened, readingBy, checkedBy}
 use Rattle.rnt.specs.Syntax.{Section}
-use Rattle.rnt.specs.Reading.{providerAt, sectionAt, namedVerdict, providerHead, providerVerdict, commonRow, payloadVerdict, plain}
+use Rattle.rnt.specs.Reading.{providerAt, sectionAt, namedVerdict, providerHead, providerVerdict, commonRow, payloadVerdict, plain, checked}
 
 -- two common descriptor bytes, and a provider with a name of two bytes, one descriptor byte and one authority
 abbrev pub sample : List ℕ
@@ -52,6 +52,8 @@ pub record Rows : Type 0 where
   pub records : sectionAt sample ≡ sampleSection
   pub short : plain (0x79 ∷ 0xF0 ∷ 0x0C ∷ 0x00 ∷ 0x01 ∷ 0xC1 ∷ 0x00 ∷ 0x00 ∷ 0x00 ∷ 0xF0 ∷ 0x00 ∷ 0x00 ∷ 0x00 ∷ 0x00 ∷ []) ≡ bad 1 15 14
   pub other : plain (0x76 ∷ 0xF0 ∷ 0x0C ∷ 0x00 ∷ 0x01 ∷ 0xC1 ∷ 0x00 ∷ 0x00 ∷ 0x00 ∷ 0xF0 ∷ 0x00 ∷ 0x00 ∷ 0x00 ∷ 0x00 ∷ 0x00 ∷ []) ≡ bad 40 121 118
+  pub without-indicator : plain (0x79 ∷ 0x70 ∷ 0x0C ∷ 0x00 ∷ 0x01 ∷ 0xC1 ∷ 0x00 ∷ 0x00 ∷ 0x00 ∷ 0xF0 ∷ 0x00 ∷ 0x00 ∷ 0x00 ∷ 0x00 ∷ 0x00 ∷ []) ≡ Fine
+  pub unindicated : checked (0x79 ∷ 0x70 ∷ 0x0B ∷ 0x00 ∷ 0x01 ∷ 0xC1 ∷ 0x00 ∷ 0x00 ∷ 0x00 ∷ 0xF0 ∷ 0x00 ∷ 0x00 ∷ 0x00 ∷ 0x00 ∷ 0x00 ∷ []) ≡ bad 38 0x70 0
   pub small : plain (0x79 ∷ 0xF0 ∷ 0x0B ∷ 0x00 ∷ 0x01 ∷ 0xC1 ∷ 0x00 ∷ 0x00 ∷ 0x00 ∷ 0xF0 ∷ 0x00 ∷ 0x00 ∷ 0x00 ∷ 0x00 ∷ 0x00 ∷ []) ≡ bad 3 11 15
   pub cut : plain (0x79 ∷ 0xF0 ∷ 0x0D ∷ 0x00 ∷ 0x01 ∷ 0xC1 ∷ 0x00 ∷ 0x00 ∷ 0x00 ∷ 0xF0 ∷ 0x00 ∷ 0x00 ∷ 0x00 ∷ 0x00 ∷ 0x00 ∷ []) ≡ bad 3 13 15
   pub common : plain (0x79 ∷ 0xF0 ∷ 0x0C ∷ 0x00 ∷ 0x01 ∷ 0xC1 ∷ 0x00 ∷ 0x00 ∷ 0x00 ∷ 0xF0 ∷ 0x01 ∷ 0x00 ∷ 0x00 ∷ 0x00 ∷ 0x00 ∷ []) ≡ bad 41 1 0
@@ -66,13 +68,15 @@ pub record Rows : Type 0 where
   pub authority-descriptors-cut : plain (0x79 ∷ 0xF0 ∷ 0x14 ∷ 0x00 ∷ 0x01 ∷ 0xC1 ∷ 0x00 ∷ 0x00 ∷ 0x00 ∷ 0xF0 ∷ 0x00 ∷ 0xF0 ∷ 0x06 ∷ 0x00 ∷ 0xF0 ∷ 0x00 ∷ 0x00 ∷ 0xF0 ∷ 0x01 ∷ 0x14 ∷ 0xB4 ∷ 0xB6 ∷ 0x3F ∷ []) ≡ bad 46 20 19
 
 pub rows : Rows
-unfolding readingBy opened payloadVerdict commonRow longRow providerVerdict providerHead namedVerdict blockRows placesTo sectionAt providerAt refuse _▷_
+unfolding checkedBy readingBy opened payloadVerdict commonRow longRow providerVerdict providerHead namedVerdict blockRows placesTo sectionAt providerAt refuse _▷_
 rows =
     record {
       fine = refl;
       records = refl;
       short = refl;
       other = refl;
+      without-indicator = refl;
+      unindicated = refl;
       small = refl;
       cut = refl;
       common = refl;

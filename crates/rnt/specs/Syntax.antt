@@ -8,7 +8,7 @@ use Rattle.wire.specs.Lengths.{longest, widestBeside, Block, BlockFits, blockBy
 use Rattle.wire.specs.Refusals.{notRnt}
 use Rattle.wire.specs.Runs.{inOrder, AllFit}
 use Rattle.section_header.specs.Syntax.{frontLength, headerBytes, HeaderFits}
-use Rattle.frame.specs.Syntax.{uncounted, crcLength, withCrc}
+use Rattle.frame.specs.Syntax.{uncounted, crcLength, withCrc, Indicated}
 use Rattle.frame.specs.declared.Demands.{Demands}
 use Rattle.frame.specs.declared.Table.{Table}
 use Rattle.rnt.specs.declared.RntHeader.{RntHeader}
@@ -139,4 +139,5 @@ pub record Fits (d : Demands) (s : Section) : Type 0 where
   pub header : RntHeaderFits (s .header)
   pub common : BlockFits (s .common)
   pub providers : AllFit ProviderFits (s .providers)
+  pub indicated : Indicated d (s .header .section)
   pub fits : sectionLength s ≤ d .most

@@ -1,7 +1,8 @@
--- Demand 2 over what the calls answer. Rebuilt: the section that they tell of accepted bytes is written as those bytes up to the CRC. Read back: of what a section is written as, with four bytes and more behind it, they tell that section.
+-- Demand 2 over what the calls answer. Rebuilt: the section that they tell of accepted bytes, its syntax indicator set, is written as those bytes up to the CRC. Read back: of what a section is written as, with four bytes and more behind it, they tell that section.
 -- Assumes nothing.
 use Prim.Native.Nat.{ℕ, zero, suc, _+_, _≤_, _<_}
 use mathlib.Core.Path.{_≡_, refl, sym, ap, _∙_}
+use mathlib.Core.Bool.{true}
 use mathlib.Core.List.{List, [], _∷_, _++_, map}
 use native.Mathlib.Omega.{arith}
 use lib.ListN.{length, getD, take}
@@ -57,8 +58,9 @@ pub record ToldRebuilt (xs : List ℕ) : Type 0 where
   pub same : sectionBytes (told xs) ≡ take (payloadEnd xs) xs
   pub fits : Fits plainDemands (told xs)
 
-pub demand-rebuilt : (xs : List ℕ) → Bytes xs → plain xs ≡ Fine → ToldRebuilt xs
-demand-rebuilt xs b v =
+-- of accepted bytes whose syntax indicator is set
+pub demand-rebuilt : (xs : List ℕ) → Bytes xs → plain xs ≡ Fine → told xs .header .section .«section_syntax_indicator» ≡ true → ToldRebuilt xs
+demand-rebuilt xs b v i =
     let r = rebuilt plainDemands xs b v in
     let e = told-section xs v in
     record { same = rw e (r .same); fits = rw e (r .fits) }

@@ -3,7 +3,7 @@
 use mathlib.Core.Path.{_≡_, refl}
 use Prim.Native.Nat.{ℕ, _+_, _*_, _/_, _%_, _≤_, _<_}
 use native.Mathlib.Omega.{arith}
-use mathlib.Core.Bool.{Bool, false}
+use mathlib.Core.Bool.{Bool, true, false}
 use mathlib.Core.List.{List, [], _∷_, _++_}
 use lib.Dec.{eqb}
 use lib.ListN.{length, drop, getD}
@@ -11,17 +11,17 @@ use Rattle.wire.specs.Choice.{bit}
 use Rattle.wire.specs.Lists.{Bytes, firsts}
 use Rattle.wire.specs.Numbers.{be16}
 use Rattle.wire.specs.Lengths.{longest, lengthBytes, lengthAt, besideOf, besideAt}
-use Rattle.wire.specs.Refusals.{tooWide}
+use Rattle.wire.specs.Refusals.{tooWide, noSyntaxIndicator}
+use Rattle.wire.specs.Verdict.{bad, _▷_}
 use Rattle.wire.specs.declared.verdict.Verdict.the-variants.{Fine}
-use Rattle.wire.proofs.Among.{Among, among-then}
+use Rattle.wire.proofs.Among.{Among, among-row, among-then, among-more}
 use Rattle.wire.proofs.Lists.{bytes-at}
-use Rattle.wire.proofs.Verdicts.{then-fine, fine-then}
+use Rattle.wire.proofs.Verdicts.{then-fine, fine-then, go-on, stop, due-passed, due-pass, due-broken}
 use Rattle.wire.proofs.Words.{word16-back, word16-high, word16-low, bit-small, bit-back, bit-rebuild}
-use Rattle.wire.proofs.Blocks.{beside-narrow}
-use Rattle.field.specs.Fields.{low, sectionReserved, versionNumber, versionReserved}
+use Rattle.field.specs.Fields.{low, sectionReserved, versionNumber, versionReserved, checkField}
 use Rattle.field.proofs.Checks.{field-listed, field-passed, field-pass, low-whole}
 use Rattle.section_header.specs.Syntax.{frontLength, firstBits, versionByte, headerBytes, HeaderFits, headerOf, newHeader}
-use Rattle.section_header.specs.Reading.{headerAt, noHeader}
+use Rattle.section_header.specs.Reading.{syntaxIndicator, headerAt, noHeader}
 use Rattle.section_header.specs.Checks.{checkHeader, narrowed}
 use Rattle.section_header.specs.declared.SectionHeader.{SectionHeader}
 
@@ -32,7 +32,7 @@ unfolding headerBytes lengthBytes
 header-rebuild xs b = λ i. p1 i ∷ p2 i ∷ hi i ∷ lo i ∷ p5 i ∷ getD xs 6 0 ∷ getD xs 7 0 ∷ []
   where
     nibble : firstBits (headerAt xs) ≡ besideAt xs 1
-    nibble = rw (bit-rebuild (besideAt xs 1 / 8) (omega (arith, beside-narrow xs 1 b)), bit-rebuild (besideAt xs 1 / 4 % 2) (omega arith)) (omega arith)
+    nibble = rw (bit-rebuild (getD xs 1 0 / 128) (omega (arith, bytes-at xs 1 b)), bit-rebuild (besideAt xs 1 / 4 % 2) (omega arith)) (omega (arith, bytes-at xs 2 b))
 
     p1 : firstBits (headerAt xs) * 16 + lengthAt xs 1 / 256 ≡ getD xs 1 0
     p1 = omega (arith, nibble, bytes-at xs 2 b)
@@ -105,8 +105,8 @@ header-back id h len ys f l =
     nibble : first ≡ firstBits h
     nibble = omega (arith, l)
 
-    syntax : eqb (first / 8) 1 ≡ h .«section_syntax_indicator»
-    syntax = bit-back (h .«section_syntax_indicator») (first / 8) (omega (arith, nibble, f .reserved1, bit-small (h .«private_indicator»)))
+    syntax : syntaxIndicator (firstBits h * 16 + len / 256) ≡ h .«section_syntax_indicator»
+    syntax = bit-back (h .«section_syntax_indicator») ((firstBits h * 16 + len / 256) / 128) (omega (arith, l, f .reserved1, bit-small (h .«private_indicator»)))
 
     private : eqb (first / 4 % 2) 1 ≡ h .«private_indicator»
     private = bit-back (h .«private_indicator») (first / 4 % 2) (omega (arith, nibble, f .reserved1, bit-small (h .«private_indicator»)))
@@ -162,23 +162,51 @@ pub record Narrow (h : SectionHeader) : Type 0 where
   pub version : h .«version_number» ≤ versionNumber .widest
   pub reserved5 : h .«reserved_b5» ≤ versionReserved .widest
 
-pub header-passed : (h : SectionHeader) → checkHeader h ≡ Fine → Narrow h
+-- which headers are written
+pub record Written (h : SectionHeader) : Type 0 where
+  pub indicated : h .«section_syntax_indicator» ≡ true
+  pub narrow : Narrow h
+
+pub header-passed : (h : SectionHeader) → checkHeader h ≡ Fine → Written h
 unfolding checkHeader
 header-passed h v =
     let one = then-fine _ _ v in
     let two = then-fine _ _ (one .1) in
-    record { reserved1 = field-passed sectionReserved _ (one .0); version = field-passed versionNumber _ (two .0); reserved5 = field-passed versionReserved _ (two .1) }
+    let three = then-fine _ _ (two .1) in
+    record {
+      indicated = due-passed true (h .«section_syntax_indicator») _ _ _ (one .0) refl;
+      narrow = record { reserved1 = field-passed sectionReserved _ (two .0); version = field-passed versionNumber _ (three .0); reserved5 = field-passed versionReserved _ (three .1) };
+    }
 
-pub header-pass : (h : SectionHeader) → Narrow h → checkHeader h ≡ Fine
+pub header-pass : (h : SectionHeader) → Written h → checkHeader h ≡ Fine
 unfolding checkHeader
-header-pass h n = fine-then _ _ (field-pass sectionReserved _ (n .reserved1)) (fine-then _ _ (field-pass versionNumber _ (n .version)) (field-pass versionReserved _ (n .reserved5)))
+header-pass h w =
+    let n = w .narrow in
+    fine-then _ _ (due-pass true (h .«section_syntax_indicator») _ _ _ (λ e. w .indicated))
+    (fine-then _ _ (field-pass sectionReserved _ (n .reserved1)) (fine-then _ _ (field-pass versionNumber _ (n .version)) (field-pass versionReserved _ (n .reserved5))))
+
+-- without the syntax indicator it answers 38 (0, 0), whatever else is wrong
+pub header-unindicated : (h : SectionHeader) → h .«section_syntax_indicator» ≡ false → checkHeader h ≡ bad 38 0 0
+unfolding checkHeader
+header-unindicated h e = stop _ _ _ _ _ (due-broken true (h .«section_syntax_indicator») _ _ _ refl e)
+
+-- with it, what the narrow fields' rows answer
+pub header-ranks : (h : SectionHeader) → h .«section_syntax_indicator» ≡ true
+    → checkHeader h ≡ checkField sectionReserved (h .«reserved_b1») ▷ checkField versionNumber (h .«version_number») ▷ checkField versionReserved (h .«reserved_b5»)
+unfolding checkHeader
+header-ranks h e = go-on _ _ (due-pass true (h .«section_syntax_indicator») _ _ _ (λ u. e))
 
 -- what passes is written whole
 pub narrowed-whole : (h : SectionHeader) → Narrow h → narrowed h ≡ h
 narrowed-whole h n =
     rw (low-whole sectionReserved (h .«reserved_b1») (n .reserved1), low-whole versionReserved (h .«reserved_b5») (n .reserved5), low-whole versionNumber (h .«version_number») (n .version))
 
--- 22 is all that it answers
-pub header-listed : (h : SectionHeader) → Among (tooWide ∷ []) (checkHeader h)
+-- 38 and 22 are all that it answers
+abbrev pub headerChecks : List ℕ
+headerChecks = noSyntaxIndicator ∷ tooWide ∷ []
+
+pub header-listed : (h : SectionHeader) → Among headerChecks (checkHeader h)
 unfolding checkHeader
-header-listed h = among-then (tooWide ∷ []) _ _ (field-listed _ _) (among-then (tooWide ∷ []) _ _ (field-listed _ _) (field-listed _ _))
+header-listed h =
+    among-then headerChecks _ _ (among-row headerChecks _ noSyntaxIndicator 0 0 refl)
+    (among-more (tooWide ∷ []) headerChecks _ refl (among-then (tooWide ∷ []) _ _ (field-listed _ _) (among-then (tooWide ∷ []) _ _ (field-listed _ _) (field-listed _ _))))

@@ -8,6 +8,8 @@ use Rattle.section_header.proofs.SectionHeader.new.Kinds as new-kinds
 use Rattle.section_header.proofs.SectionHeader.new.Reads as new-reads
 use Rattle.section_header.proofs.SectionHeader.none.Kinds as none-kinds
 use Rattle.section_header.proofs.SectionHeader.none.Reads as none-reads
+use Rattle.section_header.proofs.SectionHeader.syntax_indicator.Kinds as syntax-indicator-kinds
+use Rattle.section_header.proofs.SectionHeader.syntax_indicator.Reads as syntax-indicator-reads
 use Rattle.section_header.proofs.SectionHeader.of_bytes.Kinds as of-bytes-kinds
 use Rattle.section_header.proofs.SectionHeader.of_bytes.Reads as of-bytes-reads
 use Rattle.section_header.proofs.SectionHeader.check.Kinds as check-kinds
@@ -23,6 +25,9 @@ new-one = record { total = λ κs a. tt; one = λ κs a x y v w p q. (both p q, 
 
 pub none-one : One none-kinds.ps none-kinds.r none-reads.Asked none-reads.Learnt
 none-one = record { total = λ κs a. tt; one = λ κs a x y v w p q. (both p q, refl) }
+
+pub syntax-indicator-one : One syntax-indicator-kinds.ps syntax-indicator-kinds.r syntax-indicator-reads.Asked syntax-indicator-reads.Learnt
+syntax-indicator-one = record { total = λ κs a. tt; one = λ κs a x y v w p q. (both p q, refl) }
 
 pub of-bytes-one : One of-bytes-kinds.ps of-bytes-kinds.r of-bytes-reads.Asked of-bytes-reads.Learnt
 of-bytes-one = record { total = λ κs a. tt; one = λ κs a x y v w p q. (both p q, refl) }

@@ -1,6 +1,9 @@
--- What is checked of a section's header before it is written: 22 of ranks 20 to 22.
+-- What is checked of a section's header before it is written: 38 (0, 0) where the syntax indicator is not set, since such a section has
+-- neither bytes 3 to 7 nor a CRC (ISO/IEC 13818-1, 2.4.4.11); then 22 of ranks 20 to 22.
 -- Assumes nothing.
-use Rattle.wire.specs.Verdict.{_▷_}
+use mathlib.Core.Bool.{not}
+use Rattle.wire.specs.Refusals.{noSyntaxIndicator}
+use Rattle.wire.specs.Verdict.{refuse, _▷_}
 use Rattle.wire.specs.declared.verdict.Verdict.{Verdict}
 use Rattle.field.specs.Fields.{low, sectionReserved, versionNumber, versionReserved, checkField}
 use Rattle.section_header.specs.Syntax.{headerOf}
@@ -8,7 +11,8 @@ use Rattle.section_header.specs.declared.SectionHeader.{SectionHeader}
 
 unfoldable pub checkHeader : SectionHeader → Verdict
 checkHeader h =
-    checkField sectionReserved (h .«reserved_b1»)
+    refuse (not (h .«section_syntax_indicator»)) noSyntaxIndicator 0 0
+    ▷ checkField sectionReserved (h .«reserved_b1»)
     ▷ checkField versionNumber (h .«version_number»)
     ▷ checkField versionReserved (h .«reserved_b5»)
 

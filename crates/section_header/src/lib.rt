@@ -4,10 +4,11 @@ ghost use mathlib.Core.Path.{_≡_};
 ghost use Prim.Native.Nat.{_%_, _+_};
 ghost use Rattle.wire.specs.Lengths.{longest};
 ghost use Rattle.section_header.specs.Syntax.{versionByte, headerBytes, headerOf, newHeader};
-ghost use Rattle.section_header.specs.Reading.{headerAt, noHeader};
+ghost use Rattle.section_header.specs.Reading.{syntaxIndicator, headerAt, noHeader};
 ghost use Rattle.section_header.specs.Checks.{checkHeader, narrowed};
 use field::Field;
 use wire::lengths::LengthField;
+use wire::verdict::Refusal;
 use wire::verdict::Verdict;
 use wire::verdict::first_of;
 
@@ -86,13 +87,20 @@ impl SectionHeader {
         SectionHeader::with_reserved(false, false, 0, 0, 0, 0, false, 0, 0)
     }
 
+    // section_syntax_indicator, of byte 1.
+    pub fn syntax_indicator(b1: u8) -> bool
+        ensures { λ r. ⌜ r ≡ syntaxIndicator b1 ⌝ }
+    {
+        b1 / 128 == 1
+    }
+
     // The header of bytes 1 and 3 to 7.
     pub fn of_bytes(b1: u8, b3: u8, b4: u8, b5: u8, b6: u8, b7: u8) -> SectionHeader
         ensures { λ r. ⌜ r ≡ headerAt (0 ∷ b1 ∷ 0 ∷ b3 ∷ b4 ∷ b5 ∷ b6 ∷ b7 ∷ []) ⌝ }
     {
         let first = b1 / 16;
         SectionHeader::with_reserved(
-            first / 8 == 1,
+            SectionHeader::syntax_indicator(b1),
             first / 4 % 2 == 1,
             Field::SECTION_RESERVED.low(first as u16),
             wire::be16(b3, b4),
@@ -104,10 +112,17 @@ impl SectionHeader {
         )
     }
 
-    // 22 of ranks 20 to 22.
+    // What is written has the syntax indicator: 38 (0, 0). Then 22 of ranks 20 to 22.
     pub fn check(self) -> Verdict
         ensures { λ r. ⌜ r ≡ checkHeader self ⌝ }
     {
+        if !self.section_syntax_indicator {
+            return Verdict::Refused(Refusal {
+                number: Refusal::NO_SYNTAX_INDICATOR,
+                first: 0,
+                second: 0,
+            });
+        }
         let version = Field::VERSION_NUMBER.check(self.version_number as usize);
         let reserved = Field::VERSION_RESERVED.check(self.reserved_b5 as usize);
         first_of(

@@ -1,4 +1,4 @@
--- The refusal numbers of document 01, and of document 02's requests, by name. There is no 26, and none from 31 to 39 yet.
+-- The refusal numbers of document 01, and of document 02's requests, by name. There is no 26, and of 31 to 39 only 38 as yet.
 -- Assumes nothing.
 use Prim.Native.Nat.{ℕ}
 
@@ -117,6 +117,10 @@ noRoom = 29
 -- the section has as many links as its count can tell
 abbrev pub noMoreLinks : ℕ
 noMoreLinks = 30
+
+-- section_syntax_indicator is not set
+abbrev pub noSyntaxIndicator : ℕ
+noSyntaxIndicator = 38
 
 -- the first byte is not the table id of the resolution notification section
 abbrev pub notRnt : ℕ

@@ -4,6 +4,9 @@ use borrow.Author.Needs.{needs}
 use Rattle.rct_maker.proofs.check_making.Statement.{statement}
 use Rattle.rct_maker.proofs.check_making.Tie as tie
 
+check-requires : tie.Need-check-requires
+check-requires c κs = search needs
+
 check-loop-requires : tie.Need-check-loop-requires
 check-loop-requires c κs = search needs
 
@@ -13,27 +16,24 @@ check-range-requires c κs = search needs
 first-of-requires : tie.Need-first-of-requires
 first-of-requires c κs = search needs
 
-check-requires : tie.Need-check-requires
-check-requires c κs = search needs
-
 first-of-requires-2 : tie.Need-first-of-requires-2
 first-of-requires-2 c κs = search needs
 
 returns : tie.Need-returns
 unfolding checkMaking
 returns c =
-    let first-of = c .before .before .before .first-of in
-    let check-range = c .before .before .before .before .check-range in
-    let check-loop = c .before .before .before .before .before .check-loop in
-    rw (c .first-of2 .ensures, c .before .check .ensures, first-of .ensures, check-range .ensures, check-loop .ensures)
+    let check = c .before .before .before .before .check in
+    let check-range = c .before .before .check-range in
+    let check-loop = c .before .before .before .check-loop in
+    rw (c .first-of2 .ensures, check .ensures, c .before .first-of .ensures, check-range .ensures, check-loop .ensures)
 
 pub check-making-spec : {M : Type 1} → statement M
 check-making-spec =
     tie.close
     (tie.spec
+    check-requires
     check-loop-requires
     check-range-requires
     first-of-requires
-    check-requires
     first-of-requires-2
     returns)

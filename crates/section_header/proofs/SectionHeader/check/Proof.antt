@@ -1,8 +1,15 @@
 -- `check` meets its contract. Assumes nothing.
-use Rattle.section_header.specs.Checks.{checkHeader}
+use mathlib.Core.Path.{sym}
+use borrow.Author.Tests.{not-true, not-false}
+use Rattle.section_header.proofs.HeaderLaws.{header-unindicated, header-ranks}
 use borrow.Author.Needs.{needs}
 use Rattle.section_header.proofs.SectionHeader.check.Statement.{statement}
 use Rattle.section_header.proofs.SectionHeader.check.Tie as tie
+
+returns : tie.Need-returns
+returns c =
+    let args = c .before .before .args in
+    sym (header-unindicated (args .self) (not-true _ (c .if1 .taken)))
 
 cast-check : tie.Need-cast-check
 cast-check c = search needs
@@ -28,18 +35,20 @@ first-of-requires c κs = search needs
 first-of-requires-2 : tie.Need-first-of-requires-2
 first-of-requires-2 c κs = search needs
 
-returns : tie.Need-returns
-unfolding checkHeader
-returns c =
+returns-2 : tie.Need-returns-2
+returns-2 c =
     let check3 = c .before .before .check3 in
     let check = c .before .before .before .before .before .before .check in
     let check2 = c .before .before .before .before .check2 in
-    rw (c .first-of2 .ensures, check3 .ensures, c .before .first-of .ensures, check .ensures, check2 .ensures)
+    let args = c .before .before .before .before .before .before .before .before .before .before .args in
+    let if1 = c .before .before .before .before .before .before .before .before .if1 in
+    rw (c .first-of2 .ensures, check3 .ensures, c .before .first-of .ensures, check .ensures, check2 .ensures) (sym (header-ranks (args .self) (not-false _ (if1 .left))))
 
 pub check-spec : {M : Type 1} → statement M
 check-spec =
     tie.close
     (tie.spec
+    returns
     cast-check
     check-requires
     cast-check-2
@@ -48,4 +57,4 @@ check-spec =
     check-requires-3
     first-of-requires
     first-of-requires-2
-    returns)
+    returns-2)

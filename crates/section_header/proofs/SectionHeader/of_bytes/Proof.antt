@@ -7,6 +7,9 @@ use borrow.Author.Needs.{needs}
 use Rattle.section_header.proofs.SectionHeader.of_bytes.Statement.{statement}
 use Rattle.section_header.proofs.SectionHeader.of_bytes.Tie as tie
 
+syntax-indicator-requires : tie.Need-syntax-indicator-requires
+syntax-indicator-requires c κs = search needs
+
 cast-low : tie.Need-cast-low
 cast-low c = search needs
 
@@ -33,17 +36,19 @@ with-reserved-requires c κs = search needs
 
 returns : tie.Need-returns
 returns c =
-    let args = c .before .before .before .before .before .args in
+    let args = c .before .before .before .before .before .before .args in
     let low2 = c .before .before .low2 in
     let be16 = c .before .before .before .be16 in
     let low = c .before .before .before .before .low in
+    let syntax-indicator = c .before .before .before .before .before .syntax-indicator in
     let bits : besideOf (args .b1) 0 ≡ args .b1 / 16 = omega arith in
-    rw (c .with-reserved .ensures, c .before .low3 .ensures, low2 .ensures, be16 .ensures, low .ensures, bits)
+    rw (c .with-reserved .ensures, c .before .low3 .ensures, low2 .ensures, be16 .ensures, low .ensures, syntax-indicator .ensures, bits)
 
 pub of-bytes-spec : {M : Type 1} → statement M
 of-bytes-spec =
     tie.close
     (tie.spec
+    syntax-indicator-requires
     cast-low
     low-requires
     be16-requires

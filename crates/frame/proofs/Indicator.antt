@@ -3,14 +3,14 @@
 use mathlib.Core.Path.{_≡_, refl, sym}
 use mathlib.Core.Logic.{_↔_}
 use Prim.Native.Nat.{ℕ, _≤_}
-use mathlib.Core.Bool.{Bool, true, false, not}
+use mathlib.Core.Bool.{true, false, not}
 use mathlib.Core.List.{List, [], _∷_}
 use lib.ListN.{length, getD}
 use borrow.Author.Tests.{not-true}
 use Rattle.wire.specs.Refusals.{noSyntaxIndicator}
-use Rattle.wire.specs.Verdict.{bad, refuse, _▷_}
+use Rattle.wire.specs.Verdict.{bad}
 use Rattle.wire.specs.declared.verdict.Verdict.{Verdict}
-use Rattle.wire.proofs.Among.{listed, listed-here, among-row, Never, among-never, never-then, never-past, never-behind}
+use Rattle.wire.proofs.Among.{listed, Never, row-never, never-then, never-past, never-behind}
 use Rattle.wire.proofs.Verdicts.{stop, passed-ltb, passed-eqb, row-broken, row-says}
 use Rattle.section_header.specs.Reading.{syntaxIndicator, headerAt}
 use Rattle.frame.specs.Syntax.{least}
@@ -18,29 +18,25 @@ use Rattle.frame.specs.Reading.{checkedDemands, opened, crcRow, readingB
 use Rattle.frame.specs.declared.Table.{Table}
 use Rattle.frame.proofs.Opening.{opened-unindicated}
 
--- a row of another number never answers n
-row-never : (n m : ℕ) (b : Bool) (f g : ℕ) → listed n (m ∷ []) ≡ false → Never n (refuse b m f g)
-row-never n m b f g h = among-never (m ∷ []) _ n (among-row (m ∷ []) b m f g (listed-here m [])) h
+-- The bytes of the table's smallest section are there, the first is its id, and the indicator is not set, whatever the lengths, the rest and
+-- the CRC are. The figures are byte 1 and 0.
+pub record Unindicated (t : Table) (xs : List ℕ) (f g : ℕ) : Type 0 where
+  pub enough : least t ≤ length xs
+  pub id-is : getD xs 0 0 ≡ t .id
+  pub clear : headerAt xs .«section_syntax_indicator» ≡ false
+  pub figures : (f ≡ getD xs 1 0) × (g ≡ 0)
 
 module _ (t : Table) (rows : List ℕ → Verdict) (xs : List ℕ) where
-  -- the bytes of a table's smallest section are there and the first is the table's, and the indicator is not set: whatever the lengths, the rest
-  -- and the CRC are. The figures are byte 1 and 0.
-  pub record Unindicated (f g : ℕ) : Type 0 where
-    pub enough : least t ≤ length xs
-    pub id-is : getD xs 0 0 ≡ t .id
-    pub clear : headerAt xs .«section_syntax_indicator» ≡ false
-    pub figures : (f ≡ getD xs 1 0) × (g ≡ 0)
-
   -- of a table whose own numbers have no 38
   pub unindicated-iff : listed noSyntaxIndicator (t .other ∷ []) ≡ false → Never noSyntaxIndicator (rows xs) → (f g : ℕ)
-      → (checkedBy t rows xs ≡ bad noSyntaxIndicator f g) ↔ Unindicated f g
+      → (checkedBy t rows xs ≡ bad noSyntaxIndicator f g) ↔ Unindicated t xs f g
   unfolding checkedBy readingBy opened crcRow
   unindicated-iff other own f g = (to, from)
     where
       n : ℕ
       n = noSyntaxIndicator
 
-      to : checkedBy t rows xs ≡ bad n f g → Unindicated f g
+      to : checkedBy t rows xs ≡ bad n f g → Unindicated t xs f g
       to e =
           let front = never-behind n f g (opened t checkedDemands xs) _ own (never-behind n f g _ _ (row-never n _ _ _ _ refl) e) in
           let short = never-past n f g _ _ (row-never n _ _ _ _ refl) front in
@@ -55,7 +51,7 @@ module _ (t : Table) (rows : List ℕ → Verdict) (xs : List ℕ) where
             figures = (sym (says .0), sym (says .1));
           }
 
-      from : Unindicated f g → checkedBy t rows xs ≡ bad n f g
+      from : Unindicated t xs f g → checkedBy t rows xs ≡ bad n f g
       from u =
           let clear : not (syntaxIndicator (getD xs 1 0)) ≡ true = rw (u .clear) in
           rw (u .figures .0, u .figures .1)

@@ -13,7 +13,7 @@ use Rattle.wire.specs.Refusals.{tooWide, pastText, sectionTooLong, noRoom, noSy
 use Rattle.wire.specs.Verdict.{bad, refuse, _▷_}
 use Rattle.wire.specs.declared.verdict.Verdict.{Verdict}
 use Rattle.wire.specs.declared.verdict.Verdict.the-variants.{Fine}
-use Rattle.wire.proofs.Among.{listed, Among, among-row, Never, among-never, never-then, never-past, never-behind}
+use Rattle.wire.proofs.Among.{listed, Among, Never, among-never, row-never, never-then, never-past, never-behind}
 use Rattle.wire.proofs.Verdicts.{then-fine, fine-then, then-assoc, go-on, stop, row-says, row-broken, broken-ltb, break-ltb, due-passed, due-pass, due-broken}
 use Rattle.field.specs.Fields.{sectionReserved, versionNumber, versionReserved, loopLength, loopLengthReserved, checkField}
 use Rattle.link.specs.declared.Range.{Range}
@@ -104,9 +104,6 @@ module _ (xs : List ℕ) (h : RctHeader) (beside : ℕ) (t : List ℕ) (d : Rang
   room-never : (n : ℕ) → listed n roomNumbers ≡ false → Never n room
   room-never n e = among-never roomNumbers room n (room-listed _ _) e
 
-  row-never : (n : ℕ) → listed n (noSyntaxIndicator ∷ []) ≡ false → Never n row
-  row-never n e = among-never (noSyntaxIndicator ∷ []) row n (among-row (noSyntaxIndicator ∷ []) _ noSyntaxIndicator 0 0 refl) e
-
   row-passed : row ≡ Fine → indicator ≡ true
   row-passed e = due-passed true indicator _ _ _ e refl
 
@@ -147,7 +144,7 @@ module _ (xs : List ℕ) (h : RctHeader) (beside : ℕ) (t : List ℕ) (d : Rang
     where
       to : checks ▷ room ≡ bad tooWide p n → MadeTooWide p n
       to e =
-          let a = never-past tooWide p n row (widths ▷ range) (row-never tooWide refl) (never-behind tooWide p n checks room (room-never tooWide refl) e) in
+          let a = never-past tooWide p n row (widths ▷ range) (row-never tooWide noSyntaxIndicator _ 0 0 refl) (never-behind tooWide p n checks room (room-never tooWide refl) e) in
           let b = never-behind tooWide p n widths range (range-never tooWide refl) (a .1) in
           let f = first-told checkNumbered numbered-passed numbered-pass fields _ b in
           let says = row-says _ tooWide _ _ tooWide p n (f .told) .1 in
@@ -171,7 +168,7 @@ module _ (xs : List ℕ) (h : RctHeader) (beside : ℕ) (t : List ℕ) (d : Rang
     where
       to : checks ▷ room ≡ bad pastText f g → MadePastText f g
       to e =
-          let a = never-past pastText f g row (widths ▷ range) (row-never pastText refl) (never-behind pastText f g checks room (room-never pastText refl) e) in
+          let a = never-past pastText f g row (widths ▷ range) (row-never pastText noSyntaxIndicator _ 0 0 refl) (never-behind pastText f g checks room (room-never pastText refl) e) in
           let b = never-past pastText f g widths range (widths-never pastText refl) (a .1) in
           let says = row-says _ _ _ _ _ f g (b .1) .1 in
           record { indicated = row-passed (a .0); narrow = each-passed checkNumbered numbered-passed fields (b .0); past = broken-ltb _ _ _ _ _ _ f g (b .1); figures = (sym (says .0), sym (says .1)) }

@@ -1,4 +1,4 @@
--- What is checked before a section with no links is made, of a header and a descriptor loop that are handed in: document 01's 22 and 25, in this order.
+-- What is checked before a section with no links is made, of a header and a descriptor loop that are handed in: request 102's 38, then document 01's 22 and 25.
 -- Assumes nothing.
 use Prim.Native.Nat.{ℕ, _+_, _≤_, _<_}
 use mathlib.Core.List.{List}
@@ -13,7 +13,7 @@ use Rattle.link.specs.declared.Range.{Range}
 use Rattle.link_draft.specs.Checks.{checkRange}
 use Rattle.rct.specs.declared.RctHeader.{RctHeader}
 
--- ---- 22: a field above its widest number, lowest rank first
+-- ---- 38 and 22 of the header (section_header), then 22 of the loop: a field above its widest number, lowest rank first
 
 -- ranks 23 and 24, behind the header's 20 to 22
 unfoldable pub checkLoop : ℕ → Range → Verdict

@@ -5,7 +5,7 @@ use mathlib.Core.Logic.{_↔_}
 use Prim.Native.Nat.{ℕ, _+_, _-_, _≤_}
 use native.Mathlib.Omega.{arith}
 use mathlib.Core.List.{List, [], _++_, map, append-assoc}
-use lib.ListN.{length, take, drop, length-append, length-take}
+use lib.ListN.{length, take, length-append, length-take}
 use Rattle.wire.specs.Lists.{Bytes}
 use Rattle.wire.specs.Numbers.{bytes32}
 use Rattle.wire.specs.Lengths.{longest, lengthBytes, lengthAt, blockBytes, blockAt, blockEnd, longRow}
@@ -20,7 +20,7 @@ use Rattle.crc.specs.Crc.{crcOf}
 use Rattle.crc.proofs.Ending.{crc-lt}
 use Rattle.section_header.specs.Syntax.{headerBytes}
 use Rattle.frame.specs.Syntax.{uncounted, crcLength}
-use Rattle.frame.specs.Reading.{declared, totalOf, payloadEnd}
+use Rattle.frame.specs.Reading.{declared, payloadEnd}
 use Rattle.frame.specs.declared.Demands.{Demands}
 use Rattle.frame.proofs.Opening.{Opened}
 use Rattle.frame.proofs.Readings as readings

@@ -76,7 +76,7 @@ pub checked-limited : (xs : List ℕ) → Among limitedReading (checked xs)
 checked-limited = limited-among rnt payloadVerdict plainReading payload-listed limitedReading refl refl refl
 
 -- 38 exactly if a section of the table is there and its indicator is not set, whatever else is wrong
-pub checked-unindicated : (xs : List ℕ) (f g : ℕ) → (checked xs ≡ bad noSyntaxIndicator f g) ↔ Unindicated rnt payloadVerdict xs f g
+pub checked-unindicated : (xs : List ℕ) (f g : ℕ) → (checked xs ≡ bad noSyntaxIndicator f g) ↔ Unindicated rnt xs f g
 checked-unindicated xs = unindicated-iff rnt payloadVerdict xs refl (among-never plainReading _ noSyntaxIndicator (payload-listed xs) refl)
 
 -- ---- by number

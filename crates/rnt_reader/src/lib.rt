@@ -81,7 +81,7 @@ pub fn read_section(s: &[u8]) -> RntRead
     section_of(s, rnt_walker::plain_places(s, 0, 0))
 }
 
-// The checked reading: the plain one, then 20.
+// The checked reading: the plain one with 38 behind 40, then 20.
 pub fn check_section(s: &[u8]) -> RntRead
     ensures { λ r. ⌜ r ≡ sectionRead (checked (now (s .entry))) (now (s .entry)) ⌝ }
 {

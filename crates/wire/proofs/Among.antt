@@ -82,6 +82,10 @@ among-never ns v n p a f g e =
     let z : _≡_ {A = ℕ} 0 1 = cc in
     omega arith
 
+-- as a row of another number
+pub row-never : (n m : ℕ) (b : Bool) (f g : ℕ) → listed n (m ∷ []) ≡ false → Never n (refuse b m f g)
+row-never n m b f g h = among-never (m ∷ []) _ n (among-row (m ∷ []) b m f g (listed-here m [])) h
+
 pub never-then : (n : ℕ) (v w : Verdict) → Never n v → Never n w → Never n (v ▷ w)
 unfolding _▷_
 never-then n Fine w p q = q

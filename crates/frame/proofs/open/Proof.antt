@@ -1,5 +1,5 @@
 -- `open` meets its contract: each exit answers the row that it stands for. Assumes nothing.
-use mathlib.Core.Path.{_≡_, sym, _∙_, ap}
+use mathlib.Core.Path.{_≡_, sym, _∙_}
 use Prim.Native.Nat.{_-_}
 use native.Mathlib.Omega.{arith}
 use Rattle.wire.specs.Verdict.{reached}

@@ -1,5 +1,4 @@
 -- `unmet_by` meets its contract. Assumes nothing.
-use mathlib.Core.Path.{refl}
 use borrow.Author.Needs.{needs}
 use Rattle.frame.proofs.Demands.unmet_by.Statement.{statement}
 use Rattle.frame.proofs.Demands.unmet_by.Tie as tie

@@ -49,10 +49,11 @@ not-made-again xs zs e = making-unindicated zs (plainRead xs .header) _ xs (plai
 
 -- ---- append and replace
 
--- refused: the buffer is as it was; accepted: it was there and is there
+-- it was there and is there
 abbrev Both : List ℕ → Outcome → Type 0
 Both xs o = (indicated xs ≡ true) × (indicated (o .buffer) ≡ true)
 
+-- a call that leaves a refused buffer as it was, and accepts only where it was there and then is there
 keeps : (xs : List ℕ) (o : Outcome) (v : Verdict) → o .verdict ≡ v → ((r : Refusal) → o .verdict ≡ Refused r → o .buffer ≡ xs) → (o .verdict ≡ Fine → Both xs o)
     → indicated (o .buffer) ≡ indicated xs
 keeps xs o Fine e refused accepted = let two = accepted e in two .1 ∙ sym (two .0)

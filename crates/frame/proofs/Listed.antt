@@ -18,7 +18,7 @@ use Rattle.wire.proofs.Among.{listed, allListed, listed-here, listed-behind, Am
 use Rattle.wire.proofs.Verdicts.{pass-ltb, due-pass}
 use Rattle.section_header.specs.Reading.{syntaxIndicator}
 use Rattle.frame.specs.Syntax.{limit}
-use Rattle.frame.specs.Reading.{declared, plainDemands, checkedDemands, unindicated, opened, crcRow, readingBy, checkedBy}
+use Rattle.frame.specs.Reading.{declared, plainDemands, checkedDemands, indicatorRow, opened, crcRow, readingBy, checkedBy}
 use Rattle.frame.specs.Ending.{crcRoom, crcVerdict}
 use Rattle.frame.specs.declared.Table.{Table}
 use Rattle.frame.specs.declared.Demands.{Demands}
@@ -44,15 +44,12 @@ abbrev pub limitedOpening : Table → List ℕ
 limitedOpening t = t .other ∷ limitedLengths
 
 module _ (t : Table) (d : Demands) (xs : List ℕ) where
-  indicatorRow : Verdict
-  indicatorRow = refuse (unindicated d (getD xs 1 0)) noSyntaxIndicator (getD xs 1 0) 0
-
   limitRow : Verdict
   limitRow = refuse (ltb (d .most) (declared xs)) sectionTooLong (declared xs) (d .most)
 
   -- by the other numbers of the list
-  rows-listed : (ms : List ℕ) → listed tooShort ms ≡ true → listed wrongLength ms ≡ true → Among (t .other ∷ ms) indicatorRow → Among (t .other ∷ ms) limitRow → Among (t .other ∷ ms) (opened t d xs)
-  unfolding opened indicatorRow limitRow
+  rows-listed : (ms : List ℕ) → listed tooShort ms ≡ true → listed wrongLength ms ≡ true → Among (t .other ∷ ms) (indicatorRow d xs) → Among (t .other ∷ ms) limitRow → Among (t .other ∷ ms) (opened t d xs)
+  unfolding opened limitRow
   rows-listed ms s w i l =
       let ns : List ℕ = t .other ∷ ms in
       let wrong : listed wrongLength ns ≡ true = listed-behind wrongLength (t .other) ms w in
@@ -60,8 +57,7 @@ module _ (t : Table) (d : Demands) (xs : List ℕ) where
       (among-then ns _ _ (among-row ns _ (t .other) _ _ (listed-here (t .other) ms))
       (among-then ns _ _ i (among-then ns _ _ (among-row ns _ wrongLength _ _ wrong) (among-then ns _ _ (among-row ns _ wrongLength _ _ wrong) l))))
 
-  indicator-listed : (ms : List ℕ) → listed noSyntaxIndicator ms ≡ true → Among (t .other ∷ ms) indicatorRow
-  unfolding indicatorRow
+  indicator-listed : (ms : List ℕ) → listed noSyntaxIndicator ms ≡ true → Among (t .other ∷ ms) (indicatorRow d xs)
   indicator-listed ms h = among-row (t .other ∷ ms) _ noSyntaxIndicator _ _ (listed-behind noSyntaxIndicator (t .other) ms h)
 
   limit-passed : longest ≤ d .most → limitRow ≡ Fine
@@ -81,9 +77,8 @@ module _ (t : Table) (d : Demands) (xs : List ℕ) where
 
   -- nor is 38 where the indicator is not demanded either, as in the plain reading
   pub opening-listed : d .indicator ≡ false → longest ≤ d .most → Among (opening t) (opened t d xs)
-  unfolding indicatorRow
   opening-listed u h =
-      let fine : indicatorRow ≡ Fine = due-pass (d .indicator) (syntaxIndicator (getD xs 1 0)) _ _ _ (λ e. absurd (false≢true (sym u ∙ e))) in
+      let fine : indicatorRow d xs ≡ Fine = due-pass (d .indicator) (syntaxIndicator (getD xs 1 0)) _ _ _ (λ e. absurd (false≢true (sym u ∙ e))) in
       rows-listed lengths refl refl (rw fine (among-fine (opening t))) (rw (limit-passed h) (among-fine (opening t)))
 
 -- the checked reading takes them all too, as long as the limit is not below the field's

@@ -1,6 +1,6 @@
 -- What an opened section is: the rows passed, and the answer of each row that is broken.
 -- Assumes nothing.
-use mathlib.Core.Path.{_≡_}
+use mathlib.Core.Path.{_≡_, ap, _∙_}
 use mathlib.Core.Logic.{_↔_}
 use Prim.Native.Nat.{ℕ, _+_, _≤_, _<_}
 use native.Mathlib.Omega.{arith}
@@ -19,7 +19,7 @@ use Rattle.wire.proofs.Verdicts.{then-fine, fine-then, fine-row, passed-ltb, pa
 use Rattle.wire.specs.Refusals.{tooShort, wrongLength, sectionTooLong, noSyntaxIndicator}
 use Rattle.section_header.specs.Reading.{syntaxIndicator, headerAt}
 use Rattle.frame.specs.Syntax.{uncounted, least, Indicated}
-use Rattle.frame.specs.Reading.{declared, totalOf, plainDemands, unindicated, opened}
+use Rattle.frame.specs.Reading.{declared, totalOf, plainDemands, unindicated, indicatorRow, opened}
 use Rattle.section_header.specs.declared.SectionHeader.{SectionHeader}
 use Rattle.frame.specs.declared.Table.{Table}
 use Rattle.frame.specs.declared.Demands.{Demands}
@@ -42,7 +42,7 @@ module _ (t : Table) (d : Demands) (xs : List ℕ) where
   opened-fine v =
       let a = then-fine (refuse (ltb (length xs) (least t)) tooShort (least t) (length xs)) _ v in
       let b = then-fine (refuse (not (eqb (getD xs 0 0) (t .id))) (t .other) (t .id) (getD xs 0 0)) _ (a .1) in
-      let i = then-fine (refuse (unindicated d (getD xs 1 0)) noSyntaxIndicator (getD xs 1 0) 0) _ (b .1) in
+      let i = then-fine (indicatorRow d xs) _ (b .1) in
       let c = then-fine (refuse (ltb (totalOf xs) (least t)) wrongLength (declared xs) (length xs)) _ (i .1) in
       let e = then-fine (refuse (ltb (length xs) (totalOf xs)) wrongLength (declared xs) (length xs)) _ (c .1) in
       record {
@@ -103,6 +103,12 @@ module _ (t : Table) (d : Demands) (xs : List ℕ) where
                 le-ltb (length xs) (totalOf xs) w,
                 lt-ltb (d .most) (declared xs) h,
               )
+
+-- from what was written: a header and a section_length that meet the demands, read at their places
+pub opened-back : (t : Table) (d : Demands) (xs : List ℕ) (h : SectionHeader) (len : ℕ) → getD xs 0 0 ≡ t .id → headerAt xs ≡ h → declared xs ≡ len
+    → Indicated d h → len ≤ d .most → least t ≤ uncounted + len → uncounted + len ≤ length xs → Opened t d xs
+opened-back t d xs h len i e l s m a b =
+    record { id-is = i; indicated = λ u. ap (λ (r : SectionHeader). r .«section_syntax_indicator») e ∙ s u; large = rw l a; within = rw l b; limited = rw l m }
 
 -- what the place that an opening reached tells: the code's walks start from there
 pub record OpenedAt (t : Table) (d : Demands) (xs : List ℕ) (n : ℕ) : Type 0 where

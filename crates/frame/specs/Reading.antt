@@ -46,12 +46,16 @@ checkedDemands = record { indicator = true; most = limit }
 abbrev pub unindicated : Demands → ℕ → Bool
 unindicated d b1 = d .indicator && not (syntaxIndicator b1)
 
+-- 38: with byte 1, and 0
+abbrev pub indicatorRow : Demands → List ℕ → Verdict
+indicatorRow d xs = refuse (unindicated d (getD xs 1 0)) noSyntaxIndicator (getD xs 1 0) 0
+
 -- what stands in front, for a table and for what a reading demands
 unfoldable pub opened : Table → Demands → List ℕ → Verdict
 opened t d xs =
     refuse (ltb (length xs) (least t)) tooShort (least t) (length xs)
     ▷ refuse (not (eqb (getD xs 0 0) (t .id))) (t .other) (t .id) (getD xs 0 0)
-    ▷ refuse (unindicated d (getD xs 1 0)) noSyntaxIndicator (getD xs 1 0) 0
+    ▷ indicatorRow d xs
     ▷ refuse (ltb (totalOf xs) (least t)) wrongLength (declared xs) (length xs)
     ▷ refuse (ltb (length xs) (totalOf xs)) wrongLength (declared xs) (length xs)
     ▷ refuse (ltb (d .most) (declared xs)) sectionTooLong (declared xs) (d .most)

@@ -18,7 +18,7 @@ use Rattle.section_header.specs.Syntax.{headerBytes}
 use Rattle.frame.specs.Syntax.{uncounted, crcLength, least}
 use Rattle.frame.specs.Reading.{declared, totalOf, payloadEnd}
 use Rattle.frame.specs.declared.Demands.{Demands}
-use Rattle.frame.proofs.Opening.{Opened}
+use Rattle.frame.proofs.Opening.{Opened, opened-back}
 use Rattle.frame.proofs.Readings.{reading-opened, reading-passed, reading-pass}
 use Rattle.frame.proofs.Tables as tables
 use Rattle.rct.specs.declared.RctHeader.{RctHeader}
@@ -124,13 +124,8 @@ read-from d s xs tail f t hd = (passed, λ i. record { header = hd .header i; li
 
     frame : Opened rct d xs
     frame =
-        record {
-          id-is = hd .id-is;
-          indicated = λ e. ap (λ (h : RctHeader). h .section .«section_syntax_indicator») (hd .header) ∙ f .indicated e;
-          large = omega (arith, hd .len-is, length-payload s);
-          within = omega (arith, hd .len-is, size);
-          limited = rw (hd .len-is) (f .fits);
-        }
+        opened-back rct d xs (s .header .section) (sectionLength s) (hd .id-is) (ap (λ (h : RctHeader). h .section) (hd .header)) (hd .len-is) (f .indicated) (f .fits)
+        (omega (arith, length-payload s)) (omega (arith, size))
 
     links : LinksRead (s .links) xs (payloadEnd xs) headLength (blockBytes (s .loop) ++ tail)
     links = links-back (s .links) xs (payloadEnd xs) headLength (blockBytes (s .loop) ++ tail) (f .links)

@@ -4,17 +4,17 @@
 use Prim.Native.Nat.{ℕ, _+_, _<_}
 use mathlib.Core.Path.{_≡_, refl, sym, ap, _∙_}
 use mathlib.Core.Logic.{_↔_}
-use mathlib.Core.Bool.{Bool, true, false, not}
+use mathlib.Core.Bool.{Bool, true, false}
 use mathlib.Core.List.{List, [], _∷_}
 use native.Mathlib.Omega.{arith}
 use lib.ListN.{length}
 use borrow.Author.Tests.{not-true}
 use Rattle.wire.specs.Refusals.{tooWide, pastText, sectionTooLong, noRoom, noSyntaxIndicator}
-use Rattle.wire.specs.Verdict.{bad, refuse, _▷_}
+use Rattle.wire.specs.Verdict.{bad, _▷_}
 use Rattle.wire.specs.declared.verdict.Verdict.{Verdict}
 use Rattle.wire.specs.declared.verdict.Verdict.the-variants.{Fine}
 use Rattle.wire.proofs.Among.{listed, Among, Never, among-never, row-never, never-then, never-past, never-behind}
-use Rattle.wire.proofs.Verdicts.{then-fine, fine-then, then-assoc, go-on, stop, row-says, row-broken, broken-ltb, break-ltb, due-passed, due-pass, due-broken}
+use Rattle.wire.proofs.Verdicts.{then-fine, fine-then, then-assoc, go-on, stop, row-says, row-broken, broken-ltb, break-ltb}
 use Rattle.field.specs.Fields.{sectionReserved, versionNumber, versionReserved, loopLength, loopLengthReserved, checkField}
 use Rattle.link.specs.declared.Range.{Range}
 use Rattle.link_draft.specs.Carried.{Each, Within}
@@ -24,7 +24,8 @@ use Rattle.link_draft.proofs.Firsts.{row-refuses, only-row, only-first, only-li
 use Rattle.link_draft.proofs.Listed.{range-listed}
 use Rattle.link_draft.proofs.Ranking.{checkNumbered, numbered-passed, numbered-pass, lower-first}
 use Rattle.link_draft.proofs.Rows.{range-passed, range-pass, each-passed, each-pass}
-use Rattle.section_header.specs.Checks.{checkHeader}
+use Rattle.section_header.specs.Checks.{indicatorRow, checkHeader}
+use Rattle.section_header.proofs.HeaderLaws.{indicator-passed, indicator-pass, indicator-broken}
 use Rattle.rct.specs.declared.RctHeader.{RctHeader}
 use Rattle.rct.specs.Syntax.{Section, sectionLength}
 use Rattle.rct_edit.specs.Edit.{bare, roomRows}
@@ -51,12 +52,8 @@ ranks-rise h beside d = (omega arith, (omega arith, (omega arith, (omega arith, 
 nothing-first : (v : Verdict) → Fine ▷ v ≡ v
 nothing-first v = go-on Fine v refl
 
--- the syntax indicator
-abbrev pub indicatorRow : RctHeader → Verdict
-indicatorRow h = refuse (not (h .section .«section_syntax_indicator»)) noSyntaxIndicator 0 0
-
--- the checks are that row, the rows of the list, then the range's
-checks-rows : (h : RctHeader) (beside have : ℕ) (d : Range) → checkMaking h beside have d ≡ indicatorRow h ▷ (firstIn checkNumbered (madeFields h beside d) ▷ checkRange have d)
+-- the checks are the row of the syntax indicator, the rows of the list, then the range's
+checks-rows : (h : RctHeader) (beside have : ℕ) (d : Range) → checkMaking h beside have d ≡ indicatorRow (h .section) ▷ (firstIn checkNumbered (madeFields h beside d) ▷ checkRange have d)
 unfolding checkMaking checkHeader checkLoop firstIn
 checks-rows h beside have d = simp (then-assoc, nothing-first)
 
@@ -83,7 +80,7 @@ module _ (xs : List ℕ) (h : RctHeader) (beside : ℕ) (t : List ℕ) (d : Rang
   indicator = h .section .«section_syntax_indicator»
 
   abbrev row : Verdict
-  row = indicatorRow h
+  row = indicatorRow (h .section)
 
   abbrev checks : Verdict
   checks = row ▷ (widths ▷ range)
@@ -104,12 +101,6 @@ module _ (xs : List ℕ) (h : RctHeader) (beside : ℕ) (t : List ℕ) (d : Rang
   room-never : (n : ℕ) → listed n roomNumbers ≡ false → Never n room
   room-never n e = among-never roomNumbers room n (room-listed _ _) e
 
-  row-passed : row ≡ Fine → indicator ≡ true
-  row-passed e = due-passed true indicator _ _ _ e refl
-
-  row-pass : indicator ≡ true → row ≡ Fine
-  row-pass e = due-pass true indicator _ _ _ (λ u. e)
-
   -- 38 (f, g): the header's syntax indicator is not set, whatever else is wrong
   pub record MadeUnindicated (f g : ℕ) : Type 0 where
     pub clear : indicator ≡ false
@@ -126,7 +117,7 @@ module _ (xs : List ℕ) (h : RctHeader) (beside : ℕ) (t : List ℕ) (d : Rang
           record { clear = not-true indicator (row-broken _ _ _ _ _ f g b); figures = (sym (says .0), sym (says .1)) }
 
       from : MadeUnindicated f g → checks ▷ room ≡ bad noSyntaxIndicator f g
-      from w = rw (w .figures .0, w .figures .1) (stop checks room _ _ _ (stop row (widths ▷ range) _ _ _ (due-broken true indicator _ _ _ refl (w .clear))))
+      from w = rw (w .figures .0, w .figures .1) (stop checks room _ _ _ (stop row (widths ▷ range) _ _ _ (indicator-broken (h .section) (w .clear))))
 
   -- 22 (p, n): it is set, and of the fields the first that does not hold its number has the rank p and the number n, whatever
   -- else is wrong; so each field of a lower rank holds its own
@@ -148,12 +139,12 @@ module _ (xs : List ℕ) (h : RctHeader) (beside : ℕ) (t : List ℕ) (d : Rang
           let b = never-behind tooWide p n widths range (range-never tooWide refl) (a .1) in
           let f = first-told checkNumbered numbered-passed numbered-pass fields _ b in
           let says = row-says _ tooWide _ _ tooWide p n (f .told) .1 in
-          record { indicated = row-passed (a .0); it = f .it; first = f .first; rank = says .0; number = says .1; lower = rw (says .0) at (lower-first 20 24 fields (f .it) (ranks-rise h beside d) (f .first)) }
+          record { indicated = indicator-passed (h .section) (a .0); it = f .it; first = f .first; rank = says .0; number = says .1; lower = rw (says .0) at (lower-first 20 24 fields (f .it) (ranks-rise h beside d) (f .first)) }
 
       from : MadeTooWide p n → checks ▷ room ≡ bad tooWide p n
       from w =
           let own : checkNumbered (w .it) ≡ bad tooWide p n = rw (← w .rank, ← w .number) (row-refuses _ tooWide _ _ (λ e. w .first .bad (numbered-passed (w .it) e))) in
-          stop checks room _ _ _ (go-on row _ (row-pass (w .indicated)) ∙ stop widths range _ _ _ (first-tells checkNumbered numbered-passed numbered-pass fields (w .it) _ (w .first) own))
+          stop checks room _ _ _ (go-on row _ (indicator-pass (h .section) (w .indicated)) ∙ stop widths range _ _ _ (first-tells checkNumbered numbered-passed numbered-pass fields (w .it) _ (w .first) own))
 
   -- 25 (f, g): it is set, each field holds its number, and the descriptors are a range past the text
   pub record MadePastText (f g : ℕ) : Type 0 where
@@ -171,12 +162,12 @@ module _ (xs : List ℕ) (h : RctHeader) (beside : ℕ) (t : List ℕ) (d : Rang
           let a = never-past pastText f g row (widths ▷ range) (row-never pastText noSyntaxIndicator _ 0 0 refl) (never-behind pastText f g checks room (room-never pastText refl) e) in
           let b = never-past pastText f g widths range (widths-never pastText refl) (a .1) in
           let says = row-says _ _ _ _ _ f g (b .1) .1 in
-          record { indicated = row-passed (a .0); narrow = each-passed checkNumbered numbered-passed fields (b .0); past = broken-ltb _ _ _ _ _ _ f g (b .1); figures = (sym (says .0), sym (says .1)) }
+          record { indicated = indicator-passed (h .section) (a .0); narrow = each-passed checkNumbered numbered-passed fields (b .0); past = broken-ltb _ _ _ _ _ _ f g (b .1); figures = (sym (says .0), sym (says .1)) }
 
       from : MadePastText f g → checks ▷ room ≡ bad pastText f g
       from w =
           rw (w .figures .0, w .figures .1)
-          (stop checks room _ _ _ (go-on row _ (row-pass (w .indicated)) ∙ go-on widths range (each-pass checkNumbered numbered-pass fields (w .narrow)) ∙ break-ltb _ _ _ _ _ (w .past)))
+          (stop checks room _ _ _ (go-on row _ (indicator-pass (h .section) (w .indicated)) ∙ go-on widths range (each-pass checkNumbered numbered-pass fields (w .narrow)) ∙ break-ltb _ _ _ _ _ (w .past)))
 
   -- what stands before 28: it is set, each field holds its number, and the descriptors are a range of the text
   pub record MadeReady : Type 0 where
@@ -188,10 +179,10 @@ module _ (xs : List ℕ) (h : RctHeader) (beside : ℕ) (t : List ℕ) (d : Rang
   ready e =
       let one = then-fine row (widths ▷ range) e in
       let two = then-fine widths range (one .1) in
-      record { indicated = row-passed (one .0); narrow = each-passed checkNumbered numbered-passed fields (two .0); within = range-passed t d (two .1) }
+      record { indicated = indicator-passed (h .section) (one .0); narrow = each-passed checkNumbered numbered-passed fields (two .0); within = range-passed t d (two .1) }
 
   ready-back : MadeReady → checks ≡ Fine
-  ready-back r = fine-then row _ (row-pass (r .indicated)) (fine-then widths range (each-pass checkNumbered numbered-pass fields (r .narrow)) (range-pass t d (r .within)))
+  ready-back r = fine-then row _ (indicator-pass (h .section) (r .indicated)) (fine-then widths range (each-pass checkNumbered numbered-pass fields (r .narrow)) (range-pass t d (r .within)))
 
   checks-never : (n : ℕ) → listed n makingChecks ≡ false → Never n checks
   checks-never n e = among-never makingChecks _ n (rw (← checks-rows h beside (length t) d) (checks-listed h beside (length t) d)) e

@@ -22,7 +22,7 @@ use Rattle.section_header.specs.Syntax.{headerBytes}
 use Rattle.frame.specs.Syntax.{uncounted, crcLength}
 use Rattle.frame.specs.Reading.{declared, payloadEnd}
 use Rattle.frame.specs.declared.Demands.{Demands}
-use Rattle.frame.proofs.Opening.{Opened}
+use Rattle.frame.proofs.Opening.{Opened, opened-back}
 use Rattle.frame.proofs.Readings as readings
 use Rattle.frame.proofs.Tables as tables
 use Rattle.rnt.specs.declared.RntHeader.{RntHeader}
@@ -128,13 +128,8 @@ read-from d s xs tail f t hd = (passed, λ i. record { header = hd .header i; co
 
     frame : Opened rnt d xs
     frame =
-        record {
-          id-is = hd .id-is;
-          indicated = λ e. ap (λ (h : RntHeader). h .section .«section_syntax_indicator») (hd .header) ∙ f .indicated e;
-          large = omega (arith, hd .len-is, length-payload s);
-          within = omega (arith, hd .len-is, size);
-          limited = rw (hd .len-is) (f .fits);
-        }
+        opened-back rnt d xs (s .header .section) (sectionLength s) (hd .id-is) (ap (λ (h : RntHeader). h .section) (hd .header)) (hd .len-is) (f .indicated) (f .fits)
+        (omega (arith, length-payload s)) (omega (arith, size))
 
     common : BlockRead xs commonPlace (s .common) (providers ++ tail)
     common = block-back xs commonPlace (s .common) (providers ++ tail) (f .common) (hd .rest ∙ append-assoc (blockBytes (s .common)) providers tail)

@@ -22,7 +22,7 @@ use Rattle.field.specs.Fields.{low, sectionReserved, versionNumber, versionRese
 use Rattle.field.proofs.Checks.{field-listed, field-passed, field-pass, low-whole}
 use Rattle.section_header.specs.Syntax.{frontLength, firstBits, versionByte, headerBytes, HeaderFits, headerOf, newHeader}
 use Rattle.section_header.specs.Reading.{syntaxIndicator, headerAt, noHeader}
-use Rattle.section_header.specs.Checks.{checkHeader, narrowed}
+use Rattle.section_header.specs.Checks.{indicatorRow, checkHeader, narrowed}
 use Rattle.section_header.specs.declared.SectionHeader.{SectionHeader}
 
 -- ---- what is read, written
@@ -167,6 +167,16 @@ pub record Written (h : SectionHeader) : Type 0 where
   pub indicated : h .«section_syntax_indicator» ≡ true
   pub narrow : Narrow h
 
+-- the indicator's row: passed exactly if it is set, and else 38 (0, 0)
+pub indicator-passed : (h : SectionHeader) → indicatorRow h ≡ Fine → h .«section_syntax_indicator» ≡ true
+indicator-passed h v = due-passed true (h .«section_syntax_indicator») _ _ _ v refl
+
+pub indicator-pass : (h : SectionHeader) → h .«section_syntax_indicator» ≡ true → indicatorRow h ≡ Fine
+indicator-pass h e = due-pass true (h .«section_syntax_indicator») _ _ _ (λ u. e)
+
+pub indicator-broken : (h : SectionHeader) → h .«section_syntax_indicator» ≡ false → indicatorRow h ≡ bad 38 0 0
+indicator-broken h e = due-broken true (h .«section_syntax_indicator») _ _ _ refl e
+
 pub header-passed : (h : SectionHeader) → checkHeader h ≡ Fine → Written h
 unfolding checkHeader
 header-passed h v =
@@ -174,7 +184,7 @@ header-passed h v =
     let two = then-fine _ _ (one .1) in
     let three = then-fine _ _ (two .1) in
     record {
-      indicated = due-passed true (h .«section_syntax_indicator») _ _ _ (one .0) refl;
+      indicated = indicator-passed h (one .0);
       narrow = record { reserved1 = field-passed sectionReserved _ (two .0); version = field-passed versionNumber _ (three .0); reserved5 = field-passed versionReserved _ (three .1) };
     }
 
@@ -182,19 +192,19 @@ pub header-pass : (h : SectionHeader) → Written h → checkHeader h ≡ Fine
 unfolding checkHeader
 header-pass h w =
     let n = w .narrow in
-    fine-then _ _ (due-pass true (h .«section_syntax_indicator») _ _ _ (λ e. w .indicated))
+    fine-then _ _ (indicator-pass h (w .indicated))
     (fine-then _ _ (field-pass sectionReserved _ (n .reserved1)) (fine-then _ _ (field-pass versionNumber _ (n .version)) (field-pass versionReserved _ (n .reserved5))))
 
 -- without the syntax indicator it answers 38 (0, 0), whatever else is wrong
 pub header-unindicated : (h : SectionHeader) → h .«section_syntax_indicator» ≡ false → checkHeader h ≡ bad 38 0 0
 unfolding checkHeader
-header-unindicated h e = stop _ _ _ _ _ (due-broken true (h .«section_syntax_indicator») _ _ _ refl e)
+header-unindicated h e = stop _ _ _ _ _ (indicator-broken h e)
 
 -- with it, what the narrow fields' rows answer
 pub header-ranks : (h : SectionHeader) → h .«section_syntax_indicator» ≡ true
     → checkHeader h ≡ checkField sectionReserved (h .«reserved_b1») ▷ checkField versionNumber (h .«version_number») ▷ checkField versionReserved (h .«reserved_b5»)
 unfolding checkHeader
-header-ranks h e = go-on _ _ (due-pass true (h .«section_syntax_indicator») _ _ _ (λ u. e))
+header-ranks h e = go-on _ _ (indicator-pass h e)
 
 -- what passes is written whole
 pub narrowed-whole : (h : SectionHeader) → Narrow h → narrowed h ≡ h

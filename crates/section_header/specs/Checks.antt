@@ -9,9 +9,13 @@ use Rattle.field.specs.Fields.{low, sectionReserved, versionNumber, versionRese
 use Rattle.section_header.specs.Syntax.{headerOf}
 use Rattle.section_header.specs.declared.SectionHeader.{SectionHeader}
 
+-- the indicator is set
+abbrev pub indicatorRow : SectionHeader → Verdict
+indicatorRow h = refuse (not (h .«section_syntax_indicator»)) noSyntaxIndicator 0 0
+
 unfoldable pub checkHeader : SectionHeader → Verdict
 checkHeader h =
-    refuse (not (h .«section_syntax_indicator»)) noSyntaxIndicator 0 0
+    indicatorRow h
     ▷ checkField sectionReserved (h .«reserved_b1»)
     ▷ checkField versionNumber (h .«version_number»)
     ▷ checkField versionReserved (h .«reserved_b5»)

@@ -1,4 +1,4 @@
--- The refusal numbers of document 01, and of document 02's requests, by name. There is no 26, and of 31 to 39 only 38 as yet.
+-- The refusal numbers of document 01, and of document 02's requests, by name. There is no 26, and of 31 to 39 only 38 and 39 as yet.
 -- Assumes nothing.
 use Prim.Native.Nat.{ℕ}
 
@@ -121,6 +121,10 @@ noMoreLinks = 30
 -- section_syntax_indicator is not set
 abbrev pub noSyntaxIndicator : ℕ
 noSyntaxIndicator = 38
+
+-- a descriptor of the section's loop is cut off
+abbrev pub descriptorCut : ℕ
+descriptorCut = 39
 
 -- the first byte is not the table id of the resolution notification section
 abbrev pub notRnt : ℕ

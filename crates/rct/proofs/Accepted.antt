@@ -22,10 +22,10 @@ use Rattle.frame.proofs.Opening.{Opened, opened-back}
 use Rattle.frame.proofs.Readings.{reading-opened, reading-passed, reading-pass}
 use Rattle.frame.proofs.Tables as tables
 use Rattle.rct.specs.declared.RctHeader.{RctHeader}
-use Rattle.rct.specs.Syntax.{headLength, shortest, rct, Section, headBytes, linksBytes, payload, sectionLength, fullLength, sectionBytes, Fits}
-use Rattle.rct.specs.Reading.{countAt, after, linksAt, loopPlace, sectionAt, linksVerdict, payloadVerdict, reading}
+use Rattle.rct.specs.Syntax.{headLength, shortest, rct, Section, headBytes, linksBytes, payload, sectionLength, fullLength, sectionBytes, entryPlace, Fits}
+use Rattle.rct.specs.Reading.{countAt, after, linksAt, linkPlace, loopPlace, sectionAt, linksVerdict, payloadVerdict, reading}
 use Rattle.rct.proofs.Head.{head-rebuild, rct-header-fits, HeadRead, head-back}
-use Rattle.rct.proofs.Links.{length-linksAt, Walked, walked, LinksRead, links-back}
+use Rattle.rct.proofs.Links.{length-linksAt, Walked, walked, place-of, LinksRead, links-back}
 use Rattle.wire.proofs.Blocks.{last-pass, last-passed}
 
 -- ---- lengths
@@ -91,6 +91,16 @@ module _ (d : Demands) (xs : List ℕ) (b : Bytes xs) where
   rebuild v =
       let a = accepted v in
       rw (length-is a, length-linksAt, head-rebuild xs b (a .frame .id-is) (omega (arith, a .frame .large, a .frame .within))) (payload-rebuild a)
+
+  -- where the walk finds link k, and behind the last one the loop, is where the syntax puts it; and so is the end
+  pub place-is : reading d xs ≡ Fine → (k : ℕ) → k ≤ countAt xs → linkPlace xs k ≡ entryPlace (sectionAt xs) k
+  unfolding sectionAt
+  place-is v k h =
+      let a = accepted v in
+      place-of (countAt xs) k xs (payloadEnd xs) headLength b (omega (arith, a .frame .within)) (a .links-fine) h
+
+  pub total-is : reading d xs ≡ Fine → totalOf xs ≡ fullLength (sectionAt xs)
+  total-is v = ap (λ n. uncounted + n) (sym (length-is (accepted v)))
 
   -- and they fit
   pub accepted-fits : reading d xs ≡ Fine → Fits d (sectionAt xs)

@@ -104,6 +104,18 @@ walked (suc n) xs e p b l h v =
       fit = (x .fit, w .fit);
     }
 
+-- behind k of n links stands what the syntax puts there: link k, and behind the last what follows the links
+pub place-of : (n k : ℕ) (xs : List ℕ) (e p : ℕ) → Bytes xs → e ≤ length xs → linksVerdict n xs e p ≡ Fine → k ≤ n
+    → after k xs p ≡ p + length (linksBytes (take k (linksAt n xs p)))
+place-of n zero xs e p b l v h = omega arith
+place-of zero (suc k) xs e p b l v h = absurd (not-suc-le-zero h)
+place-of (suc n) (suc k) xs e p b l v h =
+    let one = then-fine (entryVerdict xs e p) _ v in
+    let w = entry-passed xs e p (one .0) in
+    let x = entry-read xs p b (omega arith) (w .good) in
+    let i = place-of n k xs e (blockEnd xs p) b l (one .1) (le-of-suc-le-suc h) in
+    omega (arith, i, x .size, entry-length (linkIn xs p), length-append (blockBytes (entryOf (linkIn xs p))) (linksBytes (take k (linksAt n xs (blockEnd xs p)))))
+
 -- link k of n: where it stands, what it is, that it lies within the payload, and that its body is accepted
 pub record Found (n k : ℕ) (xs : List ℕ) (e p : ℕ) : Type 0 where
   pub place : after k xs p ≡ p + length (linksBytes (take k (linksAt n xs p)))
@@ -115,18 +127,11 @@ pub found : (n k : ℕ) (xs : List ℕ) (e p : ℕ) → Bytes xs → e ≤ lengt
 found zero k xs e p b l v h = absurd (not-suc-le-zero h)
 found (suc n) zero xs e p b l v h =
     let k = entry-passed xs e p (then-fine (entryVerdict xs e p) _ v .0) in
-    record { place = omega arith; link = λ d. refl; within = k .within; good = k .good }
+    record { place = place-of (suc n) zero xs e p b l v (omega arith); link = λ d. refl; within = k .within; good = k .good }
 found (suc n) (suc k) xs e p b l v h =
     let one = then-fine (entryVerdict xs e p) _ v in
-    let w = entry-passed xs e p (one .0) in
-    let x = entry-read xs p b (omega arith) (w .good) in
     let i = found n k xs e (blockEnd xs p) b l (one .1) (le-of-suc-le-suc h) in
-    record {
-      place = omega (arith, i .place, x .size, entry-length (linkIn xs p), length-append (blockBytes (entryOf (linkIn xs p))) (linksBytes (take k (linksAt n xs (blockEnd xs p)))));
-      link = i .link;
-      within = i .within;
-      good = i .good;
-    }
+    record { place = place-of (suc n) (suc k) xs e p b l v (omega arith); link = i .link; within = i .within; good = i .good }
 
 -- ---- links that were written
 

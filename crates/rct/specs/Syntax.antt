@@ -3,7 +3,7 @@
 use Prim.Native.Nat.{ℕ, _+_, _-_, _≤_, _<_}
 use mathlib.Core.Bool.{Bool}
 use mathlib.Core.List.{List, [], _∷_, _++_}
-use lib.ListN.{length}
+use lib.ListN.{length, take}
 use Rattle.wire.specs.Numbers.{bytes16}
 use Rattle.wire.specs.Lengths.{longest, Block, BlockFits, blockBytes}
 use Rattle.wire.specs.Refusals.{notRct}
@@ -63,6 +63,10 @@ linksBytes (l ∷ ls) = blockBytes (entryOf l) ++ linksBytes ls
 -- what stands between the header and the CRC: the links, then the descriptor loop behind four bits and its length
 unfoldable pub payload : Section → List ℕ
 payload s = linksBytes (s .links) ++ blockBytes (s .loop)
+
+-- the place of link k's entry: behind the head and the links before it; at the number of links, where the next one would go
+abbrev pub entryPlace : Section → ℕ → ℕ
+entryPlace s k = headLength + length (linksBytes (take k (s .links)))
 
 -- section_length counts from behind itself to the end of the CRC
 unfoldable pub sectionLength : Section → ℕ

@@ -2,6 +2,7 @@
 -- order; and that each public contract leaves one outcome.
 pub mod Records
 pub mod Outcomes
+pub mod Placed
 pub mod Calls
 pub mod BodyRow
 pub mod Listed

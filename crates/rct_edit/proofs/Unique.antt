@@ -10,6 +10,10 @@ use Rattle.rct_edit.proofs.Edited.refused.Kinds as refused-kinds
 use Rattle.rct_edit.proofs.Edited.refused.Reads as refused-reads
 use Rattle.rct_edit.proofs.Edited.accepted.Kinds as accepted-kinds
 use Rattle.rct_edit.proofs.Edited.accepted.Reads as accepted-reads
+use Rattle.rct_edit.proofs.Spliced.of.Kinds as of-kinds
+use Rattle.rct_edit.proofs.Spliced.of.Reads as of-reads
+use Rattle.rct_edit.proofs.Spliced.edited.Kinds as edited-kinds
+use Rattle.rct_edit.proofs.Spliced.edited.Reads as edited-reads
 use Rattle.rct_edit.proofs.room.check_room.Kinds as check-room-kinds
 use Rattle.rct_edit.proofs.room.check_room.Reads as check-room-reads
 
@@ -24,6 +28,12 @@ refused-one = record { total = λ κs a. tt; one = λ κs a x y v w p q. (both p
 
 pub accepted-one : One accepted-kinds.ps accepted-kinds.r accepted-reads.Asked accepted-reads.Learnt
 accepted-one = record { total = λ κs a. tt; one = λ κs a x y v w p q. (both p q, refl) }
+
+pub of-one : One of-kinds.ps of-kinds.r of-reads.Asked of-reads.Learnt
+of-one = record { total = λ κs a. tt; one = λ κs a x y v w p q. (both p q, refl) }
+
+pub edited-one : One edited-kinds.ps edited-kinds.r edited-reads.Asked edited-reads.Learnt
+edited-one = record { total = λ κs a. tt; one = λ κs a x y v w p q. (both p q, refl) }
 
 pub check-room-one : One check-room-kinds.ps check-room-kinds.r check-room-reads.Asked check-room-reads.Learnt
 check-room-one = record { total = λ κs a. tt; one = λ κs a x y v w p q. (both p q, refl) }

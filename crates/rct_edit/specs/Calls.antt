@@ -8,8 +8,12 @@ use Rattle.link.specs.declared.LinkInfo.{LinkInfo}
 use Rattle.link.specs.declared.Range.{Range}
 use Rattle.link_draft.specs.Checks.{checkLink}
 use Rattle.rct.specs.declared.RctHeader.{RctHeader}
+use Rattle.rct.specs.Syntax.{Section, fullLength, entryPlace}
+use Rattle.rct.specs.Reading.{sectionAt}
 use Rattle.rct_edit.specs.Edit.{bare, Outcome, made, appended, replaced}
 use Rattle.rct_edit.specs.Making.{checkMaking, loopOf}
+use Rattle.rct_edit.specs.Answers.{answer, splicedBy}
+use Rattle.rct_edit.specs.declared.Spliced.{Spliced}
 
 unfoldable pub making : List ℕ → RctHeader → ℕ → List ℕ → Range → Outcome
 making xs h beside t d = made xs (checkMaking h beside (length t) d) (bare h (loopOf beside t d))
@@ -19,3 +23,13 @@ appending xs t i = appended xs (checkLink t i) (linkOf t i)
 
 unfoldable pub replacing : List ℕ → ℕ → List ℕ → LinkInfo → Outcome
 replacing xs k t i = replaced xs k (checkLink t i) (linkOf t i)
+
+-- what an edit of the section s at number k answers to whoever keeps places of it
+abbrev pub placed : Outcome → Section → ℕ → Spliced
+placed o s k = splicedBy (answer o) (fullLength s) (length (s .links)) (entryPlace s k)
+
+unfoldable pub appendingPlaced : List ℕ → List ℕ → LinkInfo → Spliced
+appendingPlaced xs t i = placed (appending xs t i) (sectionAt xs) (length (sectionAt xs .links))
+
+unfoldable pub replacingPlaced : List ℕ → ℕ → List ℕ → LinkInfo → Spliced
+replacingPlaced xs k t i = placed (replacing xs k t i) (sectionAt xs) k

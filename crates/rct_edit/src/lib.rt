@@ -1,7 +1,8 @@
 // Making, appending and replacing in a lent buffer: what the calls answer, and the numbers that they share.
 ghost use mathlib.Core.Path.{_≡_};
 ghost use Rattle.rct_edit.specs.Edit.{mostLinks, filler};
-ghost use Rattle.rct_edit.specs.Answers.{refusedWith, acceptedWith};
+ghost use Rattle.rct_edit.specs.Answers.{refusedWith, acceptedWith, splicedBy, editedBy};
+use wire::verdict::Refusal;
 use wire::verdict::Verdict;
 
 pub mod room;
@@ -31,8 +32,53 @@ impl Edited {
     }
 }
 
+// What an edit answers to whoever keeps places of the section: the totals after it and before it, the number of links before
+// it, and the place where the link's entry now stands; or the refusal.
+pub enum Spliced {
+    Done {
+        total: usize,
+        before: usize,
+        count: usize,
+        at: usize,
+    },
+    Refused(Refusal),
+}
+
+impl Spliced {
+    // What an edit answered, with the numbers that belong to it where it was accepted.
+    pub fn of(edited: Edited, before: usize, count: usize, at: usize) -> Spliced
+        ensures { λ r. ⌜ r ≡ splicedBy edited before count at ⌝ }
+    {
+        let verdict = edited.verdict;
+        match verdict {
+            Verdict::Fine => Spliced::Done {
+                total: edited.total,
+                before,
+                count,
+                at,
+            },
+            Verdict::Refused(r) => Spliced::Refused(r),
+        }
+    }
+
+    // The edit's answer alone.
+    pub fn edited(self) -> Edited
+        ensures { λ r. ⌜ r ≡ editedBy self ⌝ }
+    {
+        match self {
+            Spliced::Done {
+                total,
+                before: _,
+                count: _,
+                at: _,
+            } => Edited::accepted(total),
+            Spliced::Refused(r) => Edited::refused(Verdict::Refused(r)),
+        }
+    }
+}
+
 // The most links that the count's byte can tell.
-const MOST_LINKS: usize = 255;
+pub const MOST_LINKS: usize = 255;
 
 // What the bytes from a new end to the old one become.
 const FILLER: u8 = 0xFF;

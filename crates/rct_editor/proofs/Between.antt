@@ -9,7 +9,7 @@ use lib.Seq.{sets}
 use borrow.Author.Tests.{le-leb, lt-leb}
 use Rattle.wire.specs.Lists.{Bytes, part}
 use Rattle.wire.specs.Numbers.{bytes32}
-use Rattle.wire.specs.Verdict.{bad, _▷_}
+use Rattle.wire.specs.Verdict.{_▷_}
 use Rattle.wire.specs.declared.verdict.Refusal.{Refusal}
 use Rattle.wire.specs.declared.verdict.Verdict.{Verdict}
 use Rattle.wire.specs.declared.verdict.Verdict.the-variants.{Fine, Refused}
@@ -26,22 +26,26 @@ use Rattle.frame.proofs.Opening.{Opened}
 use Rattle.frame.proofs.Readings.{reading-opened, checked-reading}
 use Rattle.frame.specs.Syntax.{crcLength, uncounted}
 use Rattle.frame.specs.Reading.{checkedDemands, payloadEnd, totalOf}
-use Rattle.rct.specs.Syntax.{rct, Section, sectionLength, fullLength}
+use Rattle.rct.specs.Syntax.{rct, Section, sectionLength, fullLength, entryPlace}
+use Rattle.rct.proofs.Accepted.{place-is, total-is}
 use Rattle.rct.specs.Reading.{numberRow, countAt, loopPlace, sectionAt, payloadVerdict, reading, checked}
 use Rattle.rct.proofs.Checked.{count-is, number-pass}
 use Rattle.rct_walker.proofs.Walks.{SpanOf}
 use Rattle.rct_edit.specs.Edit.{mostLinks, filler, withLink, withNext, written, countRow, roomRows, editVerdict, replaceVerdict, appendVerdict, Outcome, done, replaced, appended}
-use Rattle.rct_edit.specs.Answers.{refusedWith}
+use Rattle.rct_edit.specs.Answers.{splicedBy}
 use Rattle.rct_edit.specs.Rehead.{rehead}
 use Rattle.frame.specs.Ending.{sealedAt}
 use Rattle.rct_edit.proofs.Assembled.{Steps, new-end, assembled}
 use Rattle.rct_edit.proofs.Locality.{Splice, append-splice, replace-splice}
 use Rattle.rct_edit.proofs.Records.{length-with, length-next}
 use Rattle.rct_edit.specs.declared.Edited.{Edited}
+use Rattle.rct_edit.specs.declared.Spliced.{Spliced}
+use Rattle.rct_edit.specs.declared.Spliced.the-variants as spliced
 use Rattle.rct_edit.proofs.Outcomes.{Came, done-stops, room-passed}
+use Rattle.rct_edit.proofs.Placed.{refused-placed, came-placed}
 use Rattle.rct_edit.proofs.BodyRow.{replace-without-27, append-without-27}
 use Rattle.rct_editor.specs.Splicing.{filledUp, entryBytes, Spot, lengthBetween, spliced, finished, betweenVerdict, betweenBytes, between}
-use Rattle.rct_edit.specs.Calls.{replacing, appending}
+use Rattle.rct_edit.specs.Calls.{replacing, appending, appendingPlaced, replacingPlaced}
 use Rattle.rct_editor.proofs.Sizes.{entry-size}
 
 module _ (xs : List ℕ) (o : Opened rct checkedDemands xs) (t : List ℕ) (k : LinkInfo) (s : Section) (p q count : ℕ) (sp : Splice xs s (linkOf t k) p q) (n : length (s .links) ≡ count) where
@@ -139,15 +143,22 @@ splice-spot xs s l p q o sp = record { large = o .large; within = o .within; lim
 -- ---- appending
 
 module _ (xs : List ℕ) (t : List ℕ) (k : LinkInfo) where
-  pub append-unread : (r : Refusal) (e : Edited) → checked xs ≡ Refused r → e ≡ refusedWith (Refused r) → Came (appending xs t k) e xs
-  unfolding appending appended appendVerdict editVerdict
-  append-unread r e c a = done-stops _ _ _ xs r e (refused-then (checked xs) _ r c) a
+  -- the answer p and the buffer ys are those of the call
+  abbrev Appends : Spliced → List ℕ → Type 0
+  Appends p ys = (p ≡ appendingPlaced xs t k) × (ys ≡ appending xs t k .buffer)
+
+  append-stops : (r : Refusal) → appendVerdict xs (checkLink t k) (linkOf t k) ≡ Refused r → Appends (spliced.Refused r) xs
+  unfolding appendingPlaced appending appended
+  append-stops r w = refused-placed _ xs _ _ _ r (done-stops _ _ _ xs r _ w refl)
+
+  pub append-unread : (r : Refusal) → checked xs ≡ Refused r → Appends (spliced.Refused r) xs
+  append-unread r c = append-stops r (unfold appendVerdict editVerdict in refused-then (checked xs) _ r c)
 
   module _ (c : checked xs ≡ Fine) where
-    pub append-full : (e : Edited) → mostLinks ≤ countAt xs → e ≡ refusedWith (bad noMoreLinks mostLinks 0) → Came (appending xs t k) e xs
-    unfolding appending appended appendVerdict editVerdict
-    append-full e h a =
-        done-stops _ _ _ xs _ e (go-on (checked xs) _ c ∙ stop (countRow xs) _ _ _ _ (refused-row _ _ _ _ (le-leb mostLinks (countAt xs) h))) a
+    pub append-full : (n : ℕ) → mostLinks ≤ countAt xs → n ≡ mostLinks → Appends (spliced.Refused (record { number = noMoreLinks; first = n; second = 0 })) xs
+    append-full n h e =
+        rw e
+        (append-stops _ (unfold appendVerdict editVerdict in go-on (checked xs) _ c ∙ stop (countRow xs) _ _ _ _ (refused-row _ _ _ _ (le-leb mostLinks (countAt xs) h))))
 
   -- the loop stands at q
   module _ (c : checked xs ≡ Fine) (q : ℕ) (at : loopPlace xs ≡ q) (b : Bytes xs) where
@@ -157,7 +168,7 @@ module _ (xs : List ℕ) (t : List ℕ) (k : LinkInfo) where
     pub append-spot : Spot xs q q
     append-spot = splice-spot xs _ (linkOf t k) _ _ (frame-fine xs c) behind
 
-    pub append-is : countAt xs < mostLinks → between xs q q (countAt xs + 1) t k ≡ appending xs t k
+    append-is : countAt xs < mostLinks → between xs q q (countAt xs + 1) t k ≡ appending xs t k
     unfolding appending appended
     append-is h =
         between-is xs (frame-fine xs c) t k (withNext (sectionAt xs) (linkOf t k)) q q (countAt xs + 1)
@@ -165,19 +176,35 @@ module _ (xs : List ℕ) (t : List ℕ) (k : LinkInfo) where
         ∙ ap (λ v. done v (fullLength (withNext (sectionAt xs) (linkOf t k))) (written xs (withNext (sectionAt xs) (linkOf t k))) xs)
         (sym (append-without-27 xs (checkLink t k) (linkOf t k) ∙ go-on (checked xs) _ c ∙ go-on (countRow xs) _ (fine-row _ _ _ _ (lt-leb mostLinks (countAt xs) h))))
 
+    -- with the numbers as the walk found them
+    pub append-goes : (n total : ℕ) (e : Edited) (p : Spliced) (ys : List ℕ) → countAt xs ≡ n → totalOf xs ≡ total → n < mostLinks
+        → Came (between xs q q (n + 1) t k) e ys → p ≡ splicedBy e total n q → Appends p ys
+    unfolding appendingPlaced
+    append-goes n total e p ys en et h came is =
+        let ends : Came (appending xs t k) e ys = rw (← append-is (omega arith), en) came in
+        let place : q ≡ entryPlace (sectionAt xs) (length (sectionAt xs .links)) =
+        sym at ∙ place-is checkedDemands xs b (read-fine xs c) (countAt xs) (omega arith) ∙ ap (entryPlace (sectionAt xs)) (sym (count-is xs)) in
+        came-placed (appending xs t k) ys _ _ _ e p total n q ends is (sym et ∙ total-is checkedDemands xs b (read-fine xs c)) (sym en ∙ sym (count-is xs)) place
+
 -- ---- replacing
 
 module _ (xs : List ℕ) (number : ℕ) (t : List ℕ) (k : LinkInfo) where
-  pub replace-unread : (r : Refusal) (e : Edited) → checked xs ≡ Refused r → e ≡ refusedWith (Refused r) → Came (replacing xs number t k) e xs
-  unfolding replacing replaced replaceVerdict editVerdict
-  replace-unread r e c a =
-      done-stops _ _ _ xs r e (refused-then (checked xs) _ r c) a
+  abbrev Replaces : Spliced → List ℕ → Type 0
+  Replaces p ys = (p ≡ replacingPlaced xs number t k) × (ys ≡ replacing xs number t k .buffer)
+
+  replace-stops : (r : Refusal) → replaceVerdict xs number (checkLink t k) (linkOf t k) ≡ Refused r → Replaces (spliced.Refused r) xs
+  unfolding replacingPlaced replacing replaced
+  replace-stops r w = refused-placed _ xs _ _ _ r (done-stops _ _ _ xs r _ w refl)
+
+  pub replace-unread : (r : Refusal) → checked xs ≡ Refused r → Replaces (spliced.Refused r) xs
+  replace-unread r c = replace-stops r (unfold replaceVerdict editVerdict in refused-then (checked xs) _ r c)
 
   module _ (c : checked xs ≡ Fine) where
-    pub replace-none : (e : Edited) → countAt xs ≤ number → e ≡ refusedWith (bad noSuchNumber number (countAt xs)) → Came (replacing xs number t k) e xs
-    unfolding replacing replaced replaceVerdict editVerdict numberRow
-    replace-none e h a =
-        done-stops _ _ _ xs _ e (go-on (checked xs) _ c ∙ stop (numberRow xs number) _ _ _ _ (refused-row _ _ _ _ (le-leb (countAt xs) number h))) a
+    pub replace-none : (n : ℕ) (p : Spliced) → countAt xs ≡ n → n ≤ number → p ≡ spliced.Refused (record { number = noSuchNumber; first = number; second = n }) → Replaces p xs
+    replace-none n p e h is =
+        rw (is, ← e)
+        (replace-stops _
+        (unfold replaceVerdict editVerdict numberRow in go-on (checked xs) _ c ∙ stop (numberRow xs number) _ _ _ _ (refused-row _ _ _ _ (le-leb (countAt xs) number (omega arith)))))
 
   -- there is such a link, and its entry stands from p to q
   module _ (c : checked xs ≡ Fine) (p q : ℕ) (f : SpanOf xs number p q) (b : Bytes xs) (h : number < countAt xs) where
@@ -187,10 +214,18 @@ module _ (xs : List ℕ) (number : ℕ) (t : List ℕ) (k : LinkInfo) where
     pub replace-spot : Spot xs p q
     replace-spot = splice-spot xs _ (linkOf t k) _ _ (frame-fine xs c) inside
 
-    pub replace-is : between xs p q (countAt xs) t k ≡ replacing xs number t k
+    replace-is : between xs p q (countAt xs) t k ≡ replacing xs number t k
     unfolding replacing replaced
     replace-is =
         between-is xs (frame-fine xs c) t k (withLink (sectionAt xs) number (linkOf t k)) p q (countAt xs)
         inside (length-with (sectionAt xs) number (linkOf t k) ∙ count-is xs)
         ∙ ap (λ v. done v (fullLength (withLink (sectionAt xs) number (linkOf t k))) (written xs (withLink (sectionAt xs) number (linkOf t k))) xs)
         (sym (replace-without-27 xs number (checkLink t k) (linkOf t k) ∙ go-on (checked xs) _ c ∙ go-on (numberRow xs number) _ (number-pass xs number h)))
+
+    pub replace-goes : (n total : ℕ) (e : Edited) (s : Spliced) (ys : List ℕ) → countAt xs ≡ n → totalOf xs ≡ total
+        → Came (between xs p q n t k) e ys → s ≡ splicedBy e total n p → Replaces s ys
+    unfolding replacingPlaced
+    replace-goes n total e s ys en et came is =
+        let ends : Came (replacing xs number t k) e ys = rw (← replace-is, en) came in
+        let place : p ≡ entryPlace (sectionAt xs) number = sym (f .start) ∙ place-is checkedDemands xs b (read-fine xs c) number (omega arith) in
+        came-placed (replacing xs number t k) ys _ _ _ e s total n p ends is (sym et ∙ total-is checkedDemands xs b (read-fine xs c)) (sym en ∙ sym (count-is xs)) place

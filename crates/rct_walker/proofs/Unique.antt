@@ -12,6 +12,8 @@ use Rattle.rct_walker.proofs.checked_loop.Kinds as checked-loop-kinds
 use Rattle.rct_walker.proofs.checked_loop.Reads as checked-loop-reads
 use Rattle.rct_walker.proofs.entry.read_entry.Kinds as read-entry-kinds
 use Rattle.rct_walker.proofs.entry.read_entry.Reads as read-entry-reads
+use Rattle.rct_walker.proofs.entry.check_loop.Kinds as check-loop-kinds
+use Rattle.rct_walker.proofs.entry.check_loop.Reads as check-loop-reads
 
 pub plain-places-one : One plain-places-kinds.ps plain-places-kinds.r plain-places-reads.Asked plain-places-reads.Learnt
 plain-places-one = record { total = λ κs a. tt; one = λ κs a x y v w p q. (both p q, refl) }
@@ -27,3 +29,6 @@ checked-loop-one = record { total = λ κs a. tt; one = λ κs a x y v w p q. (b
 
 pub read-entry-one : One read-entry-kinds.ps read-entry-kinds.r read-entry-reads.Asked read-entry-reads.Learnt
 read-entry-one = record { total = λ κs a. tt; one = λ κs a x y v w p q. (both p q, refl) }
+
+pub check-loop-one : One check-loop-kinds.ps check-loop-kinds.r check-loop-reads.Asked check-loop-reads.Learnt
+check-loop-one = record { total = λ κs a. tt; one = λ κs a x y v w p q. (both p q, refl) }

@@ -1,6 +1,8 @@
-// An entry of a section by its place: from one place to the next it walks over all links.
+// An entry of a section by its place, and the descriptor loop by its place: from one place to the next it walks over all links,
+// and behind the last of them stands the loop.
 ghost use mathlib.Core.Path.{_≡_};
-ghost use Rattle.rct_walker.specs.Entries.{entryRead};
+ghost use Rattle.rct.specs.Reading.{loopVerdict};
+ghost use Rattle.rct_walker.specs.Entries.{endOf, entryRead};
 use crate::walk;
 use frame::Table;
 use link::LinkFields;
@@ -8,6 +10,7 @@ use link::reading::FieldsRead;
 use wire::lengths::LengthField;
 use wire::verdict::Reached;
 use wire::verdict::Refusal;
+use wire::verdict::Verdict;
 
 // A link without its items and the place behind its entry, or a refusal, beside which nothing is built.
 pub enum EntryRead {
@@ -47,4 +50,12 @@ pub fn read_entry(payload: &[u8], at: u16) -> EntryRead
         }
         Reached::Refused(r) => EntryRead::Refused(r),
     }
+}
+
+// The descriptor loop at a place of a payload, with which the payload ends: document 01's 17 to 19.
+pub fn check_loop(payload: &[u8], at: u16) -> Verdict
+    ensures { λ r. ⌜ r ≡ loopVerdict (now (payload .entry)) (endOf (now (payload .entry))) at ⌝ }
+{
+    let e = walk::smaller(payload.len(), Table::LONGEST_PAYLOAD);
+    walk::loop_verdict(payload, e, at as usize)
 }

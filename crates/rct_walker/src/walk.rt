@@ -114,8 +114,8 @@ fn past_link(s: &[u8], e: usize, before: usize, own: usize) -> Spanned
 }
 
 // The descriptor loop at `p`, with which the payload ends at `e`.
-fn loop_verdict(s: &[u8], e: usize, p: usize) -> Verdict
-    requires { ⌜ (p ≤ e) × (e ≤ length (now s)) ⌝ }
+pub(crate) fn loop_verdict(s: &[u8], e: usize, p: usize) -> Verdict
+    requires { ⌜ (e ≤ length (now s)) × (p ≤ 65535) ⌝ }
     ensures { λ r. ⌜ r ≡ loopVerdict (now (s .entry)) e p ⌝ }
 {
     let start = p + LengthField::BYTES;

@@ -20,7 +20,7 @@ loop-verdict-requires c κs =
     let args = c .before .before .before .before .before .args in
     let g = reached-at _ _ _ (sym (past-links .ensures) ∙ c .before .links .given .1) in
     let w = links-within (args .left) (args .s .now) (args .e) (args .at) (omega arith) (g .0) in
-    (omega (arith, g .1), omega arith)
+    (omega arith, omega (arith, g .1))
 
 enum-told : tie.Need-enum-told
 enum-told c = search needs

@@ -5,7 +5,7 @@ use Prim.Native.Nat.{ℕ, suc, _+_, _-_, _*_, _/_, _%_, _≤_, _<_}
 use native.Mathlib.Omega.{arith}
 use mathlib.Core.List.{List, [], _∷_, _++_, append-assoc, append-nil}
 use lib.ListN.{length, take, drop, getD, set, length-append, length-take, length-set}
-use lib.Seq.{take-at, drop-at, take-add, take-take, length-take-le, set-split, split-at, take-set-lt, drop-set-lt, getD-take}
+use lib.Seq.{take-at, drop-at, take-take, set-split, split-at, take-set-lt, drop-set-lt, getD-take}
 use Rattle.wire.specs.Lists.{Bytes, part}
 use Rattle.wire.specs.Lengths.{longest, lengthBytes, besideOf, besideAt, blockBytes, blockEnd}
 use Rattle.wire.specs.declared.verdict.Verdict.the-variants.{Fine}
@@ -17,6 +17,7 @@ use Rattle.rct.specs.declared.RctHeader.{RctHeader}
 use Rattle.rct.specs.Syntax.{linkCountPlace, tableId, headLength, Section, headBytes, linksBytes, payload, sectionLength, sectionBytes}
 use Rattle.rct.specs.Reading.{countAt, linkIn, linksAt, linkPlace, loopPlace, sectionAt, reading}
 use Rattle.rct.proofs.Links.{entry-length, entry-read, EntryRead, length-linksAt, Found, found, links-append}
+use Rattle.rct.proofs.Payload.{drop-take}
 use Rattle.rct.proofs.Accepted.{length-payload, Accepted, accepted, length-is, rebuild}
 use Rattle.rct_edit.specs.Edit.{withLinks, withLink, withNext}
 use Rattle.rct_edit.specs.Rehead.{rehead}
@@ -121,12 +122,6 @@ pub record Splice (xs : List ℕ) (s′ : Section) (l : Link) (p q : ℕ) : Type
   pub inside : q ≤ payloadEnd xs
   pub sum : sectionLength s′ + q ≡ declared xs + p + length (blockBytes (entryOf l))
   pub bytes : sectionBytes s′ ≡ rehead (take p xs ++ (blockBytes (entryOf l) ++ part xs q (payloadEnd xs - q))) (sectionLength s′) (length (s′ .links))
-
--- what is behind q up to e
-drop-take : (xs : List ℕ) (q e : ℕ) → q ≤ e → e ≤ length xs → drop q (take e xs) ≡ part xs q (e - q)
-drop-take xs q e h l =
-    let sum : e ≡ q + (e - q) = omega arith in
-    ap (λ k. drop q (take k xs)) sum ∙ ap (drop q) (take-add q (e - q) xs) ∙ drop-at (take q xs) (part xs q (e - q)) q (length-take-le q xs (omega arith))
 
 module _ (dm : Demands) (xs : List ℕ) (b : Bytes xs) (v : reading dm xs ≡ Fine) (m : dm .most ≤ longest) where
   splice : (A K B : List Link) (l : Link) → sectionAt xs .links ≡ A ++ (K ++ B) → (p q : ℕ) → p ≡ headLength + length (linksBytes A) → q ≡ p + length (linksBytes K) → q ≤ payloadEnd xs

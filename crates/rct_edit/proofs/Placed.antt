@@ -3,6 +3,7 @@
 use Prim.Native.Nat.{ℕ}
 use mathlib.Core.Path.{_≡_, refl, ap, _∙_}
 use mathlib.Core.List.{List}
+use native.Mathlib.Omega.{arith}
 use Rattle.wire.specs.declared.verdict.Refusal.{Refusal}
 use Rattle.wire.specs.declared.verdict.Verdict.{Verdict}
 use Rattle.wire.specs.declared.verdict.Verdict.the-variants.{Fine, Refused}
@@ -41,3 +42,20 @@ appending-edited xs t i = done-edited _ _ _ xs _ _ _
 pub replacing-edited : (xs : List ℕ) (k : ℕ) (t : List ℕ) (i : LinkInfo) → editedBy (replacingPlaced xs k t i) ≡ answer (replacing xs k t i)
 unfolding replacingPlaced replacing replaced
 replacing-edited xs k t i = done-edited _ _ _ xs _ _ _
+
+-- ---- taken apart
+
+pub record PlacedIs (e : Edited) (b c a n b′ c′ a′ : ℕ) : Type 0 where
+  pub fine : e .verdict ≡ Fine
+  pub total : e .total ≡ n
+  pub before : b ≡ b′
+  pub count : c ≡ c′
+  pub at : a ≡ a′
+
+pub placed-done : (e : Edited) (b c a n b′ c′ a′ : ℕ) → splicedBy e b c a ≡ spliced.Done n b′ c′ a′ → PlacedIs e b c a n b′ c′ a′
+unfolding splicedAs
+placed-done e b c a n b′ c′ a′ = by (e .verdict) refl
+  where
+    by : (v : Verdict) → e .verdict ≡ v → splicedAs v (e .total) b c a ≡ spliced.Done n b′ c′ a′ → PlacedIs e b c a n b′ c′ a′
+    by Fine f q = record { fine = f; total = cc; before = cc; count = cc; at = cc }
+    by (Refused r) f q = let z : _≡_ {A = ℕ} 0 1 = cc in absurd (omega arith)

@@ -2,7 +2,6 @@
 -- Assumes nothing.
 use mathlib.Core.Path.{_≡_, refl, sym, ap, _∙_}
 use Prim.Native.Nat.{ℕ, zero, suc, _+_, _≤_, _<_, min}
-use native.Mathlib.Nat.{zero-add}
 use native.Mathlib.Omega.{arith}
 use mathlib.Core.List.{List}
 use lib.ListN.{length, take, getD, List·getD-map, List·getD-append}
@@ -20,13 +19,14 @@ use Rattle.link.specs.declared.LinkInfo.{LinkInfo}
 use Rattle.link.specs.declared.reading.LinkRead.{LinkRead}
 use Rattle.link.specs.declared.reading.ItemRead.the-variants as item
 use Rattle.link.proofs.Filling.{length-infos}
-use Rattle.link.proofs.Image.{part-part, info-image}
+use Rattle.link.proofs.Image.{info-image}
 use Rattle.frame.specs.Reading.{payloadEnd, plainDemands}
 use Rattle.rct.specs.Syntax.{headLength, fullLength}
 use Rattle.rct.specs.Reading.{bodyIn, countAt, linkPlace, sectionAt, entryVerdict, plain}
 use Rattle.rct.proofs.Accepted.{accepted, length-is}
 use Rattle.rct.proofs.Checked.{count-is}
 use Rattle.rct.proofs.Links.{entry-pass}
+use Rattle.rct.proofs.Payload.{length-same, beside-same, body-same}
 use Rattle.rct_walker.specs.Entries.{endOf, entryAnswer, entryRead}
 use Rattle.rct_walker.specs.declared.entry.EntryRead.the-variants as entry
 use Rattle.rct_walker.proofs.Walks.{after-next}
@@ -73,24 +73,6 @@ items-at zero i xs p d h = absurd (omega arith)
 items-at (suc n) zero xs p d h = refl
 items-at (suc n) (suc i) xs p d h = items-at n i xs (itemEnd xs p) d (omega arith)
 
--- ---- an entry of a payload is the section's
-
-module _ (xs : List ℕ) (e p : ℕ) (h : blockEnd xs p ≤ e) where
-  first : getD (take e xs) p 0 ≡ getD xs p 0
-  first = getD-take e xs p 0 (omega arith)
-
-  second : getD (take e xs) (p + 1) 0 ≡ getD xs (p + 1) 0
-  second = getD-take e xs (p + 1) 0 (omega arith)
-
-  pub length-same : lengthAt (take e xs) p ≡ lengthAt xs p
-  length-same = rw (first, second)
-
-  pub beside-same : besideAt (take e xs) p ≡ besideAt xs p
-  beside-same = rw (first, second)
-
-  pub body-same : bodyIn (take e xs) p ≡ bodyIn xs p
-  body-same = rw length-same (part-part xs 0 e (p + 2) (lengthAt xs p) h ∙ ap (λ q. part xs q (lengthAt xs p)) (zero-add (p + 2)))
-
 -- ---- link k of an accepted section
 
 module _ (xs : List ℕ) (b : Bytes xs) (k : ℕ) (v : plain xs ≡ Fine) (h : k < countAt xs) where
@@ -117,7 +99,7 @@ module _ (xs : List ℕ) (b : Bytes xs) (k : ℕ) (v : plain xs ≡ Fine) (h : k
   unfolding entryRead entryAnswer infoAt
   entry-is =
       let fields = ap (λ (r : LinkInfo). r .fields) record-is in
-      rw (fine, body, beside-same xs e p w, length-same xs e p w, ← after-next k xs headLength, fields)
+      rw (fine, body, beside-same xs e p (omega (arith, w)), length-same xs e p (omega (arith, w)), ← after-next k xs headLength, fields)
     where
       e : ℕ
       e = payloadEnd xs
@@ -135,7 +117,7 @@ module _ (xs : List ℕ) (b : Bytes xs) (k : ℕ) (v : plain xs ≡ Fine) (h : k
       size = length-take-le e xs (known .end)
 
       fine : entryVerdict (take e xs) (endOf (take e xs)) p ≡ Fine
-      fine = entry-pass (take e xs) (endOf (take e xs)) p (omega (arith, size, length-same xs e p w, w, known .short)) (rw body (known .good))
+      fine = entry-pass (take e xs) (endOf (take e xs)) p (omega (arith, size, length-same xs e p (omega (arith, w)), w, known .short)) (rw body (known .good))
 
   -- ---- item i of link k
 

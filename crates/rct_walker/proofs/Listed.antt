@@ -9,15 +9,15 @@ use Rattle.wire.specs.declared.verdict.Refusal.{Refusal}
 use Rattle.wire.specs.declared.verdict.Verdict.{Verdict}
 use Rattle.wire.specs.declared.verdict.Verdict.the-variants.{Fine, Refused}
 use Rattle.wire.proofs.Among.{listed, Among}
-use Rattle.link.specs.declared.LinkFields.{LinkFields}
-use Rattle.rct.specs.Reading.{entryVerdict, plain, checked}
+use Rattle.rct.specs.Reading.{plain, checked}
 use Rattle.rct.proofs.Listed.{entryReading, plainReading, checkedReading, entry-listed, plain-listed, checked-listed}
 use Rattle.rct_walker.specs.Places.{placesAt, walked, loopFound}
-use Rattle.rct_walker.specs.Entries.{endOf, entryAnswer, entryRead}
+use Rattle.rct_walker.specs.Entries.{endOf, entryRead}
 use Rattle.rct_walker.specs.declared.entry.EntryRead.the-variants as entry
 use Rattle.rct_walker.specs.declared.RctLoop.the-variants as whole
 use Rattle.rct_walker.specs.declared.RctPlaces.{RctPlaces}
 use Rattle.rct_walker.specs.declared.RctWalked.the-variants as walk
+use Rattle.rct_walker.proofs.EntryLaws.{entry-had-none}
 use Rattle.rct_walker.proofs.Loops.{loop-not}
 
 walked-listed : (ns : List ℕ) (v : Verdict) (p : RctPlaces) → Among ns v → (r : Refusal) → walked v p ≡ walk.Refused r → listed (r .number) ns ≡ true
@@ -38,9 +38,4 @@ pub checked-loop-listed : (xs : List ℕ) (r : Refusal) → loopFound (checked x
 checked-loop-listed xs r e = checked-listed xs r (loop-not (checked xs) xs r e)
 
 pub entry-read-listed : (xs : List ℕ) (p : ℕ) (r : Refusal) → entryRead xs p ≡ entry.Refused r → listed (r .number) entryReading ≡ true
-unfolding entryRead entryAnswer
-entry-read-listed xs p r e = by (entryVerdict xs (endOf xs) p) _ _ _ (entry-listed xs (endOf xs) p) e
-  where
-    by : (v : Verdict) (k : LinkFields) (i q : ℕ) → Among entryReading v → entryAnswer v k i q ≡ entry.Refused r → listed (r .number) entryReading ≡ true
-    by Fine k i q a w = let z : _≡_ {A = ℕ} 0 1 = cc in absurd (omega arith)
-    by (Refused s) k i q a w = a r (cc)
+entry-read-listed xs p r e = entry-listed xs (endOf xs) p r (entry-had-none xs p r e)

@@ -1,0 +1,2 @@
+-- The code's own stage of bringing up an index.
+pub mod Stages

@@ -1,0 +1,109 @@
+// Appending and replacing with an index, which is brought up from what the edit answers: the section is not read again.
+ghost use mathlib.Core.Path.{_≡_};
+ghost use Prim.Native.Nat.{_≤_, _<_};
+ghost use Rattle.rct_edit.specs.Edit.{mostLinks};
+ghost use Rattle.rct_edit.specs.Calls.{appending, replacing};
+ghost use Rattle.rct_index.specs.Editing.{turns, movedPlace, toldAnew, appendingIndexed, replacingIndexed};
+ghost use Rattle.rct_index_editor.specs.Stages.{Numbers};
+use link::LinkInfo;
+use rct_edit::Edited;
+use rct_edit::Spliced;
+use rct_index::IndexEdited;
+use rct_index::LinkMarks;
+use rct_index::RctIndex;
+use wire::verdict::Verdict;
+
+// How many places 16 bits tell apart.
+const TURNS: usize = 65536;
+
+// A place behind bytes whose number changed from `old` to `new`.
+fn moved(place: u16, old: usize, new: usize) -> u16
+    requires { ⌜ (old ≤ turns) × (new ≤ turns) ⌝ }
+    ensures { λ r. ⌜ r ≡ movedPlace old new place ⌝ }
+{
+    (((place as usize) + new + (TURNS - old)) % TURNS) as u16
+}
+
+// The index with link `number` of `count` told anew, which stands at `at` of a section that had `old` bytes and has `new`.
+fn told_anew(
+    index: RctIndex,
+    number: usize,
+    count: usize,
+    at: usize,
+    old: usize,
+    new: usize,
+    marks: LinkMarks,
+) -> RctIndex
+    requires { ⌜ Numbers number count at old new ⌝ }
+    ensures { λ r. ⌜ r ≡ toldAnew index number count at old new marks ⌝ }
+{
+    let sets = index.sets;
+    let mut places = index.places;
+    places[number] = at as u16;
+    let mut j = number + 1;
+    while j < count {
+        places[j] = moved(places[j], old, new);
+        j += 1;
+    }
+    RctIndex {
+        sets: sets.with(number as u8, marks),
+        places,
+        descriptors: index.descriptors,
+    }
+}
+
+// Appends a link, whose ranges are of `text`, and brings the index up with it.
+pub fn append(b: &mut [u8], text: &[u8], link: LinkInfo, index: RctIndex) -> IndexEdited
+    ensures { λ r. ⌜ r ≡ appendingIndexed (now (b .entry)) (now (text .entry)) link index ⌝ }
+    ensures { λ r. ⌜ now (b .exit) ≡ appending (now (b .entry)) (now (text .entry)) link .buffer ⌝ }
+{
+    let fields = link.fields;
+    let marks = LinkMarks::of(fields);
+    let put = rct_editor::editing::append_placed(b, text, link);
+    match put {
+        Spliced::Done {
+            total,
+            before,
+            count,
+            at,
+        } => IndexEdited {
+            edited: Edited::accepted(total),
+            index: told_anew(index, count, count, at, before, total, marks),
+        },
+        Spliced::Refused(r) => IndexEdited {
+            edited: Edited::refused(Verdict::Refused(r)),
+            index,
+        },
+    }
+}
+
+// Puts a link, whose ranges are of `text`, in place of link `number`, and brings the index up with it.
+pub fn replace(
+    b: &mut [u8],
+    number: usize,
+    text: &[u8],
+    link: LinkInfo,
+    index: RctIndex,
+) -> IndexEdited
+    ensures { λ r. ⌜ r ≡ replacingIndexed (now (b .entry)) number (now (text .entry)) link index ⌝ }
+    ensures { λ r. ⌜ now (b .exit) ≡ replacing (now (b .entry)) number (now (text .entry)) link .buffer ⌝ }
+{
+    let fields = link.fields;
+    let marks = LinkMarks::of(fields);
+    let put = rct_editor::editing::replace_placed(b, number, text, link);
+    match put {
+        Spliced::Done {
+            total,
+            before,
+            count,
+            at,
+        } => IndexEdited {
+            edited: Edited::accepted(total),
+            index: told_anew(index, number, count, at, before, total, marks),
+        },
+        Spliced::Refused(r) => IndexEdited {
+            edited: Edited::refused(Verdict::Refused(r)),
+            index,
+        },
+    }
+}

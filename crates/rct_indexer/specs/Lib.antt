@@ -1,0 +1,2 @@
+-- The code's own stages of building an index.
+pub mod Stages

@@ -67,11 +67,11 @@ impl Spliced {
     {
         match self {
             Spliced::Done {
-                total,
+                total: new,
                 before: _,
                 count: _,
                 at: _,
-            } => Edited::accepted(total),
+            } => Edited::accepted(new),
             Spliced::Refused(r) => Edited::refused(Verdict::Refused(r)),
         }
     }

@@ -5,7 +5,7 @@ use mathlib.Core.Path.{_≡_, refl, sym, ap, _∙_}
 use mathlib.Core.Logic.{_↔_}
 use mathlib.Core.List.{List, [], _∷_, _++_}
 use native.Mathlib.Omega.{arith}
-use lib.ListN.{length}
+use lib.ListN.{length, getD}
 use Rattle.wire.specs.Lists.{Bytes}
 use Rattle.wire.specs.Refusals.{descriptorCut}
 use Rattle.wire.specs.Verdict.{bad}
@@ -14,30 +14,36 @@ use Rattle.wire.specs.declared.verdict.Verdict.{Verdict}
 use Rattle.wire.specs.declared.verdict.Verdict.the-variants.{Fine, Refused}
 use Rattle.wire.proofs.Among.{Among, among-then, among-more, among-never, never-past}
 use Rattle.wire.proofs.Verdicts.{then-fine, fine-then, go-on}
-use Rattle.descriptors.specs.Reading.{cutVerdict}
+use Rattle.number_set.specs.Members.{size}
+use Rattle.descriptors.specs.Syntax.{loopBytes}
+use Rattle.descriptors.specs.Reading.{descriptorsOf, cutVerdict}
+use Rattle.descriptors.proofs.Rebuild.{loop-rebuilt}
 use Rattle.descriptors.proofs.Loops.{cut-same, cut-listed}
 use Rattle.descriptors.proofs.Cuts.{Cut, cut-exactly}
-use Rattle.link.specs.Syntax.{Link, LinkFits}
+use Rattle.link.specs.Syntax.{LinkFits}
 use Rattle.link.specs.Records.{linkOf}
 use Rattle.link.specs.declared.LinkInfo.{LinkInfo}
 use Rattle.link_draft.specs.Carried.{Carried}
 use Rattle.link_draft.specs.Checks.{checkLink}
 use Rattle.link_draft.proofs.Exact.{check-fits}
 use Rattle.frame.specs.Reading.{plainDemands}
-use Rattle.rct.specs.Syntax.{Section, fullLength, sectionLength}
-use Rattle.rct.specs.Reading.{sectionAt, plain, checked}
+use Rattle.rct.specs.Syntax.{Section, Fits, fullLength, entryPlace}
+use Rattle.rct.specs.Reading.{numberRow, sectionAt, plain, checked}
 use Rattle.rct.proofs.Accepted.{accepted-fits}
-use Rattle.rct.proofs.Checked.{Holds, holds-known, checked-holds, checked-iff}
+use Rattle.rct.proofs.Checked.{Holds, holds-known, checked-holds, checked-iff, count-is, number-passed}
 use Rattle.rct.proofs.Listed.{plainReading, plain-listed}
-use Rattle.rct_edit.specs.Edit.{mostLinks, withLink, withNext, written, replaceVerdict, appendVerdict, Outcome, replaced, appended}
+use Rattle.rct_edit.specs.Edit.{mostLinks, withLink, withNext, written, countRow, replaceVerdict, appendVerdict, Outcome, replaced, appended}
 use Rattle.rct_edit.specs.Calls.{appending, replacing}
-use Rattle.rct_edit.proofs.Calls.{Stepped, replaced-verdict, appended-verdict, replace-checked, append-checked, replace-can, append-can, replaced-stepped, appended-stepped}
-use Rattle.rct_index.specs.Index.{indexOf, noIndex}
+use Rattle.rct_edit.proofs.Calls.{Stepped, edit-passed, replaced-verdict, appended-verdict, replace-checked, append-checked, replace-can, append-can, replaced-stepped, appended-stepped}
+use Rattle.rct_index.specs.Index.{linkMarks, indexOf}
 use Rattle.rct_index.specs.Building.{descriptorPlace, loopRows, buildVerdict, built, building}
-use Rattle.rct_index.specs.Editing.{indexWith, broughtUp, appendingIndexed, replacingIndexed}
+use Rattle.rct_index.specs.Editing.{turns, broughtUp, appendingIndexed, replacingIndexed}
 use Rattle.rct_index.specs.declared.IndexBuilt.{IndexBuilt}
 use Rattle.rct_index.specs.declared.RctIndex.{RctIndex}
 use Rattle.rct_index.proofs.BroughtUp.{index-with, index-next}
+use Rattle.rct_index.proofs.Anew.{SetsFit, Anew, anew}
+use Rattle.rct_index.proofs.Members.{byUri, byLocator, byIcon, Told, uri-tells, locator-tells, icon-tells}
+use Rattle.rct_index.proofs.Places.{index-place, index-past}
 
 -- ---- when it can be built
 
@@ -69,6 +75,38 @@ whole-builds xs i w = rw (w .is, fine-then _ _ (w .plainly) (w .uncut))
 
 pub builds-exactly : (xs : List ℕ) (i : RctIndex) → Builds xs i ↔ Whole xs i
 builds-exactly xs i = (builds-whole xs i, whole-builds xs i)
+
+-- what the index tells of the section: the sets by number and in all, of each link where the syntax puts its entry, zeros past the last, and of the
+-- loop how many descriptors its bytes are
+pub record Tells (xs : List ℕ) (i : RctIndex) : Type 0 where
+  pub uri : Told byUri (i .sets) (sectionAt xs .links)
+  pub locator : Told byLocator (i .sets) (sectionAt xs .links)
+  pub icon : Told byIcon (i .sets) (sectionAt xs .links)
+  pub places : (k : ℕ) → k < length (sectionAt xs .links) → getD (i .places) k 0 ≡ entryPlace (sectionAt xs) k
+  pub past : (k : ℕ) → length (sectionAt xs .links) ≤ k → getD (i .places) k 0 ≡ 0
+  pub descriptors : i .descriptors ≡ length (descriptorsOf (sectionAt xs .loop .body))
+  pub loop : loopBytes (descriptorsOf (sectionAt xs .loop .body)) ≡ sectionAt xs .loop .body
+
+index-tells : (xs : List ℕ) → Fits plainDemands (sectionAt xs) → loopRows (sectionAt xs) ≡ Fine → Tells xs (indexOf (sectionAt xs))
+unfolding indexOf loopRows
+index-tells xs fits v =
+    record {
+      uri = uri-tells (sectionAt xs .links) few;
+      locator = locator-tells (sectionAt xs .links) few;
+      icon = icon-tells (sectionAt xs .links) few;
+      places = index-place (sectionAt xs);
+      past = index-past (sectionAt xs);
+      descriptors = refl;
+      loop = loop-rebuilt (descriptorPlace (sectionAt xs)) (sectionAt xs .loop .body) (fits .loop .bytes) v .same;
+    }
+  where
+    few : length (sectionAt xs .links) ≤ size
+    few = omega (arith, fits .count)
+
+pub built-tells : (xs : List ℕ) (i : RctIndex) → Bytes xs → Builds xs i → Tells xs i
+built-tells xs i b e =
+    let w = builds-whole xs i e in
+    rw (w .is) (index-tells xs (accepted-fits plainDemands xs b (w .plainly)) (w .uncut))
 
 -- 39 exactly if the plain reading accepts the section and a descriptor of its loop is cut off, at that place of the section
 pub build-cut : (xs : List ℕ) (q n : ℕ) → Bytes (sectionAt xs .loop .body)
@@ -174,6 +212,29 @@ module _ (xs t : List ℕ) (a : LinkInfo) (b : Bytes xs) (bt : Bytes t) (c : Car
 
       st : Stepped s′ (written xs s′) xs (appended xs (checkLink t a) (linkOf t a))
       st = appended-stepped xs b (checkLink t a) (linkOf t a) good f
+
+-- ---- of any index that is handed in
+
+module _ (xs t : List ℕ) (a : LinkInfo) (b : Bytes xs) (i : RctIndex) (f : SetsFit (i .sets)) where
+  -- what an accepted edit leaves known: the old section has few links and bytes
+  small : checked xs ≡ Fine → (length (sectionAt xs .links) ≤ mostLinks) × (fullLength (sectionAt xs) ≤ turns)
+  small c = let fits = checked-holds xs b c .fits in (omega (arith, fits .count), omega (arith, fits .fits))
+
+  pub replaced-anew : (k : ℕ) → replacing xs k t a .verdict ≡ Fine
+      → Anew i (replacingIndexed xs k t a i .index) k (length (sectionAt xs .links)) (entryPlace (sectionAt xs) k) (fullLength (sectionAt xs)) (fullLength (withLink (sectionAt xs) k (linkOf t a))) (linkMarks (linkOf t a))
+  unfolding replacing replacingIndexed replaceVerdict
+  replaced-anew k e =
+      let p = edit-passed xs (numberRow xs k) (checkLink t a) (linkOf t a) (withLink (sectionAt xs) k (linkOf t a)) (sym (replaced-verdict xs k (checkLink t a) (linkOf t a)) ∙ e) in
+      let two = small (p .section-fine) in
+      rw (brought _ _ i e) (anew i k _ _ _ _ _ f (omega (arith, number-passed xs k (p .row-fine), count-is xs, two .0)) (two .1))
+
+  pub appended-anew : appending xs t a .verdict ≡ Fine
+      → Anew i (appendingIndexed xs t a i .index) (length (sectionAt xs .links)) (length (sectionAt xs .links)) (entryPlace (sectionAt xs) (length (sectionAt xs .links))) (fullLength (sectionAt xs)) (fullLength (withNext (sectionAt xs) (linkOf t a))) (linkMarks (linkOf t a))
+  unfolding appending appendingIndexed appendVerdict
+  appended-anew e =
+      let p = edit-passed xs (countRow xs) (checkLink t a) (linkOf t a) (withNext (sectionAt xs) (linkOf t a)) (sym (appended-verdict xs (checkLink t a) (linkOf t a)) ∙ e) in
+      let two = small (p .section-fine) in
+      rw (brought _ _ i e) (anew i _ _ _ _ _ _ f (omega (arith, two .0)) (two .1))
 
 -- ---- and an edit that is refused gives back the index that was handed in
 

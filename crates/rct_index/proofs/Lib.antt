@@ -5,5 +5,6 @@ pub mod Members
 pub mod Places
 pub mod Nothing
 pub mod BroughtUp
+pub mod Anew
 pub mod Built
 pub mod Unique

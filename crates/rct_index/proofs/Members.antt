@@ -22,19 +22,19 @@ pub record Property : Type 0 where
   pub of : LinkMarks → Bool
   pub from : LinkSets → NumberSet
 
-abbrev pub uriOf : Property
-uriOf = record { of = λ (m : LinkMarks). m .uri; from = λ (s : LinkSets). s .uri }
+abbrev pub byUri : Property
+byUri = record { of = λ (m : LinkMarks). m .uri; from = λ (s : LinkSets). s .uri }
 
-abbrev pub locatorOf : Property
-locatorOf = record { of = λ (m : LinkMarks). m .locator; from = λ (s : LinkSets). s .locator }
+abbrev pub byLocator : Property
+byLocator = record { of = λ (m : LinkMarks). m .locator; from = λ (s : LinkSets). s .locator }
 
-abbrev pub iconOf : Property
-iconOf = record { of = λ (m : LinkMarks). m .icon; from = λ (s : LinkSets). s .icon }
+abbrev pub byIcon : Property
+byIcon = record { of = λ (m : LinkMarks). m .icon; from = λ (s : LinkSets). s .icon }
 
--- what the sets of any links hold of a property, by number and in all; nothing past the last link
-pub record Tells (p : Property) (ls : List Link) : Type 0 where
-  pub in-set : (k : ℕ) → getD (members (p .from (setsOf ls))) k false ≡ getD (having (p .of) ls) k false
-  pub count : trues (members (p .from (setsOf ls))) ≡ trues (having (p .of) ls)
+-- what sets tell of a property: by number whether the link has it, none past the last link, and in all how many links have it
+pub record Told (p : Property) (s : LinkSets) (ls : List Link) : Type 0 where
+  pub in-set : (k : ℕ) → getD (members (p .from s)) k false ≡ getD (having (p .of) ls) k false
+  pub count : trues (members (p .from s)) ≡ trues (having (p .of) ls)
 
 module _ (has : LinkMarks → Bool) (ls : List Link) (n : length ls ≤ size) where
   few : length (having has ls) ≤ size
@@ -46,30 +46,30 @@ module _ (has : LinkMarks → Bool) (ls : List Link) (n : length ls ≤ size) wh
   counted : trues (members (ofMembers (having has ls))) ≡ trues (having has ls)
   counted = count-of (having has ls) few
 
-pub uri-tells : (ls : List Link) → length ls ≤ size → Tells uriOf ls
+pub uri-tells : (ls : List Link) → length ls ≤ size → Told byUri (setsOf ls) ls
 unfolding setsOf
-uri-tells ls n = record { in-set = in-set (uriOf .of) ls n; count = counted (uriOf .of) ls n }
+uri-tells ls n = record { in-set = in-set (byUri .of) ls n; count = counted (byUri .of) ls n }
 
-pub locator-tells : (ls : List Link) → length ls ≤ size → Tells locatorOf ls
+pub locator-tells : (ls : List Link) → length ls ≤ size → Told byLocator (setsOf ls) ls
 unfolding setsOf
-locator-tells ls n = record { in-set = in-set (locatorOf .of) ls n; count = counted (locatorOf .of) ls n }
+locator-tells ls n = record { in-set = in-set (byLocator .of) ls n; count = counted (byLocator .of) ls n }
 
-pub icon-tells : (ls : List Link) → length ls ≤ size → Tells iconOf ls
+pub icon-tells : (ls : List Link) → length ls ≤ size → Told byIcon (setsOf ls) ls
 unfolding setsOf
-icon-tells ls n = record { in-set = in-set (iconOf .of) ls n; count = counted (iconOf .of) ls n }
+icon-tells ls n = record { in-set = in-set (byIcon .of) ls n; count = counted (byIcon .of) ls n }
 
 -- ---- told anew: link k is another one, and there is a link more
 
 pub sets-with : (ls : List Link) (k : ℕ) (l : Link) → k < length ls → withMarks (setsOf ls) k (linkMarks l) ≡ setsOf (set ls k l)
 unfolding withMarks setsOf
-sets-with ls k l h = λ i. record { uri = by (uriOf .of) i; locator = by (locatorOf .of) i; icon = by (iconOf .of) i }
+sets-with ls k l h = λ i. record { uri = by (byUri .of) i; locator = by (byLocator .of) i; icon = by (byIcon .of) i }
   where
     by : (has : LinkMarks → Bool) → told (ofMembers (having has ls)) k (has (linkMarks l)) ≡ ofMembers (having has (set ls k l))
     by has = of-map-set (λ (m : Link). has (linkMarks m)) ls k l h
 
 pub sets-more : (ls : List Link) (l : Link) → length ls < size → withMarks (setsOf ls) (length ls) (linkMarks l) ≡ setsOf (ls ++ l ∷ [])
 unfolding withMarks setsOf
-sets-more ls l h = λ i. record { uri = by (uriOf .of) i; locator = by (locatorOf .of) i; icon = by (iconOf .of) i }
+sets-more ls l h = λ i. record { uri = by (byUri .of) i; locator = by (byLocator .of) i; icon = by (byIcon .of) i }
   where
     by : (has : LinkMarks → Bool) → told (ofMembers (having has ls)) (length ls) (has (linkMarks l)) ≡ ofMembers (having has (ls ++ l ∷ []))
     by has = of-map-more (λ (m : Link). has (linkMarks m)) ls l h

@@ -1,6 +1,7 @@
 // The calls that lend the buffer and the text: buf and text.
 use console::Short;
 use console::print::say;
+use script::calls::SET;
 use script::calls::call_of;
 use script::calls::is_understood;
 use script::read::read_short;
@@ -18,14 +19,12 @@ pub const BUF: usize = 1;
 
 pub const TEXT: usize = 2;
 
-// What they say, and their answer.
+// What they say.
 const COUNT: Short = *b"#_______________________";
 
 const BYTE: Short = *b" %______________________";
 
 const SPACE: Short = *b" _______________________";
-
-const SET: Short = *b"set_____________________";
 
 // What a line lends: into the buffer, the text or neither, how many bytes, as the scan says, and what they are: one byte
 // over and over, or those in digits from a place of the line on.

@@ -8,6 +8,7 @@ use console::print::end_line;
 use console::print::say;
 use lend::MOST;
 use lend::read_lending;
+use rct_index::RctIndex;
 use wire::spans::Span;
 use wire::spans::handed;
 
@@ -21,11 +22,24 @@ const EMPTY: Short = *b"error empty line________";
 
 const TOO_LONG: Short = *b"error line too long_____";
 
-// How many characters of the line came, and how much of the buffer and of the text is lent.
+// How many characters of the line came, how much of the buffer and of the text is lent, and the index that is kept.
 struct Desk {
     kept: usize,
     buf: usize,
     text: usize,
+    index: RctIndex,
+}
+
+impl Desk {
+    // Nothing is lent yet, and the index is one of nothing.
+    fn start() -> Desk {
+        Desk {
+            kept: 0,
+            buf: 0,
+            text: 0,
+            index: RctIndex::none(),
+        }
+    }
 }
 
 // What is wrong with a line that has no call.
@@ -41,29 +55,36 @@ fn put_error(kept: usize) {
     say(UNKNOWN);
 }
 
-// The groups of calls, each of which says whether the call was its own: a new group is asked here.
-fn dispatch(line: &[u8], kept: usize, b: &mut [u8], text: &[u8]) {
+// The groups of calls, each of which says whether the call was its own: a new group is asked here. The answer: the index
+// that is kept from here on.
+fn dispatch(line: &[u8], b: &mut [u8], text: &[u8], desk: Desk) -> RctIndex {
+    let index = desk.index;
     if desk_reads::carry_out(line, &b[..]) {
-        return;
+        return index;
     }
     if desk_rnt::carry_out(line, &b[..]) {
-        return;
+        return index;
     }
     if desk_edits::carry_out(line, b, text) {
-        return;
+        return index;
     }
-    put_error(kept);
+    let kept = desk_index::carry_out(line, b, text, index);
+    if !kept.is_mine {
+        put_error(desk.kept);
+    }
+    kept.index
 }
 
 // A call on what is lent, of which there is never more than the arrays hold.
-fn on_lent(line: &[u8], buf: &mut [u8], text: &[u8], desk: Desk) {
+fn on_lent(line: &[u8], buf: &mut [u8], text: &[u8], desk: Desk) -> RctIndex {
     let b = desk.buf;
     let t = desk.text;
     if b <= buf.len() {
         if t <= text.len() {
-            dispatch(line, desk.kept, &mut buf[0..b], &text[0..t]);
+            return dispatch(line, &mut buf[0..b], &text[0..t], desk);
         }
     }
+    desk.index
 }
 
 // Carries out the call that a line has, and answers it.
@@ -73,19 +94,18 @@ fn answer(line: &[u8], buf: &mut [u8], text: &mut [u8], mut desk: Desk) -> Desk 
     match into {
         lend::BUF => desk.buf = lending.lend(line, buf, desk.buf),
         lend::TEXT => desk.text = lending.lend(line, text, desk.text),
-        _ => on_lent(line, buf, &text[..], desk),
+        _ => {
+            let index = on_lent(line, buf, &text[..], desk);
+            desk.index = index;
+        }
     }
     desk
 }
 
 // A proved loop has to end, and nothing says that a script does: so it counts down from a number that no run uses up. Of a
 // line that is too long nothing is handed on.
-fn run(block: &mut [u8], line: &mut [u8], buf: &mut [u8], text: &mut [u8]) {
-    let mut desk = Desk {
-        kept: 0,
-        buf: 0,
-        text: 0,
-    };
+fn run(block: &mut [u8], line: &mut [u8], buf: &mut [u8], text: &mut [u8], start: Desk) {
+    let mut desk = start;
     let mut unread = Unread::nothing();
     let mut turns = u64::MAX;
     while turns > 0 {
@@ -110,5 +130,6 @@ fn main() {
     let mut line = [0u8; LONGEST];
     let mut buf = [0u8; MOST as usize];
     let mut text = [0u8; MOST as usize];
-    run(&mut block, &mut line, &mut buf, &mut text);
+    let start = Desk::start();
+    run(&mut block, &mut line, &mut buf, &mut text, start);
 }

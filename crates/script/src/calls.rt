@@ -16,6 +16,9 @@ pub const NUMBERS: Short = *b" # #____________________";
 // What the answer to a call that reads starts with where it is not refused.
 pub const OK: Short = *b"ok______________________";
 
+// The answer to a call that lends or hands in.
+pub const SET: Short = *b"set_____________________";
+
 // Which of some calls a line has, the first being 1, or 0 for none of them, and the place behind its name.
 pub struct Call {
     pub number: usize,

@@ -4,7 +4,6 @@ use mathlib.Core.Bool.{true}
 use mathlib.Core.List.{[], _∷_}
 use mathlib.Core.Path.{_≡_, refl}
 use lib.ListN.{set}
-use Rattle.number_set.specs.declared.NumberSet.{NumberSet}
 use Rattle.number_set.specs.Members.{word, wordsOf, ofMembers, noMembers}
 
 -- the empty set

@@ -1,7 +1,7 @@
 -- What is read of a section's payload, cut off at its end e, is what is read of the section up to e: each entry, the links and the loop, refused or not.
 -- Assumes nothing.
 use mathlib.Core.Path.{_≡_, refl, sym, ap, _∙_}
-use Prim.Native.Nat.{ℕ, zero, suc, _+_, _-_, _≤_, _<_}
+use Prim.Native.Nat.{ℕ, zero, suc, _+_, _-_, _≤_}
 use native.Mathlib.Nat.{zero-add}
 use native.Mathlib.Omega.{arith}
 use mathlib.Core.Bool.{Bool, true, false}
@@ -14,7 +14,6 @@ use Rattle.wire.specs.Lists.{part}
 use Rattle.wire.specs.Lengths.{lengthAt, besideAt, blockEnd, longRow, blockVerdict, lastVerdict}
 use Rattle.wire.specs.Refusals.{entryCut, linkTooLong, loopCut, loopTooLong}
 use Rattle.wire.specs.Verdict.{_▷_}
-use Rattle.wire.specs.declared.verdict.Refusal.{Refusal}
 use Rattle.wire.specs.declared.verdict.Verdict.{Verdict}
 use Rattle.wire.specs.declared.verdict.Verdict.the-variants.{Fine, Refused}
 use Rattle.wire.proofs.Blocks.{block-passed, block-cut, block-left}

@@ -1,15 +1,14 @@
 -- What the reading calls answer of a buffer, by the syntax's records that it holds; what lies behind the section that was written.
 -- Assumes nothing.
-use Prim.Native.Nat.{ℕ, zero, suc, _-_, _<_, max}
+use Prim.Native.Nat.{ℕ, zero, suc, _-_, _<_}
 use mathlib.Core.Path.{_≡_, refl, sym, ap, subst, _∙_}
 use native.Mathlib.Omega.{arith}
 use mathlib.Core.List.{List, [], _∷_, map}
-use lib.ListN.{length, take, getD, replicate, length-append, length-take, length-replicate}
-use lib.Seq.{take-at, drop-at, getD-take}
-use Rattle.wire.specs.Lists.{Bytes, part}
+use lib.ListN.{length, take, getD, length-append, length-take}
+use lib.Seq.{getD-take}
+use Rattle.wire.specs.Lists.{Bytes}
 use Rattle.wire.specs.declared.verdict.Verdict.{Verdict}
 use Rattle.wire.specs.declared.verdict.Verdict.the-variants.{Fine, Refused}
-use Rattle.wire.proofs.Lists.{bytes-append, bytes-drop}
 use Rattle.link.specs.Syntax.{Item, Link}
 use Rattle.link.specs.Reading.{itemCount}
 use Rattle.link.specs.Records.{rangeOf, itemOf, itemsOf, linkOf, noItem, filled, itemInfos, fieldsAt, infoAt}
@@ -17,15 +16,15 @@ use Rattle.link.specs.declared.LinkInfo.{LinkInfo}
 use Rattle.link.specs.declared.LinkItem.{LinkItem}
 use Rattle.link.specs.declared.reading.LinkRead.{LinkRead}
 use Rattle.link.proofs.Filling.{length-infos}
-use Rattle.frame.specs.Reading.{totalOf, checkedDemands}
-use Rattle.rct.specs.Syntax.{Section, fullLength, sealed, Fits}
+use Rattle.frame.specs.Reading.{totalOf}
+use Rattle.rct.specs.Syntax.{Section}
 use Rattle.rct.specs.Reading.{countAt, linkPlace, sectionAt, plain, checked}
-use Rattle.rct.proofs.Checked.{length-sealed, sealed-bytes, count-is}
+use Rattle.rct.proofs.Checked.{count-is}
 use Rattle.rct_reader.specs.Sections.{sectionRead}
 use Rattle.rct_reader.specs.declared.RctSection.{RctSection}
 use Rattle.rct_links.specs.Links.{bodyOf, entryInfo, numberedLink}
 use Rattle.rct_links.proofs.Images.{link-answer, item-answer}
-use Rattle.rct_edit.specs.Edit.{filler, written, Outcome}
+use Rattle.rct_edit.specs.Edit.{written, Outcome}
 use Rattle.rct_edit.proofs.ReadsBack.{ReadsBack}
 use Rattle.rct_demands.specs.Back.{SameLink, SameItem, LinkBack, SectionBack}
 
@@ -114,22 +113,3 @@ module _ (ys : List ℕ) (b : Bytes ys) (v : plain ys ≡ Fine) (k : ℕ) (h : k
           count = counted ∙ count-same;
           items = λ i l. record { read = _; answer = item-answer ys b k v h i (omega (arith, count-same)); same = item-same i l };
         }
-
--- ---- behind the section
-
-bytes-replicate : (n x : ℕ) → x < 256 → Bytes (replicate n x)
-bytes-replicate zero x h = tt
-bytes-replicate (suc n) x h = (h, bytes-replicate n x h)
-
-module _ (xs : List ℕ) (s : Section) where
-  pub written-freed : part (written xs s) (fullLength s) (totalOf xs - fullLength s) ≡ replicate (totalOf xs - fullLength s) filler
-  unfolding written
-  written-freed =
-      ap (take (totalOf xs - fullLength s)) (drop-at (sealed s) _ (fullLength s) (length-sealed s))
-      ∙ take-at (replicate (totalOf xs - fullLength s) filler) _ (totalOf xs - fullLength s) (length-replicate (totalOf xs - fullLength s) filler)
-
-  pub written-bytes : Bytes xs → Fits checkedDemands s → Bytes (written xs s)
-  unfolding written
-  written-bytes b f =
-      bytes-append (sealed s) _ (sealed-bytes checkedDemands s (omega arith) f)
-      (bytes-append (replicate (totalOf xs - fullLength s) filler) _ (bytes-replicate (totalOf xs - fullLength s) filler (omega arith)) (bytes-drop (max (totalOf xs) (fullLength s)) xs b))

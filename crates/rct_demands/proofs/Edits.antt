@@ -19,7 +19,8 @@ use Rattle.rct_edit.specs.Edit.{written, Outcome}
 use Rattle.rct_edit.proofs.Calls.{Stepped}
 use Rattle.rct_edit.proofs.ReadsBack.{written-behind}
 use Rattle.rct_demands.specs.Back.{checkedRead, LinkBack, LinkKept, Behind}
-use Rattle.rct_demands.proofs.Answers.{answers, link-back, written-freed, written-bytes}
+use Rattle.rct_edit.proofs.Written.{written-freed, written-bytes}
+use Rattle.rct_demands.proofs.Answers.{answers, link-back}
 
 module _ (xs : List ℕ) (b : Bytes xs) (v : checked xs ≡ Fine) (s : Section) (o : Outcome) (st : Stepped s (written xs s) xs o) where
   bytes : Bytes (o .buffer)

@@ -13,6 +13,8 @@ pub mod ReadsBack
 pub mod TwoOrders
 pub mod Rebuilt
 pub mod Locality
+pub mod Written
+pub mod PlacedAt
 pub mod Assembled
 pub mod Narrow
 pub mod Carriers

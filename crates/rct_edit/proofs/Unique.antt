@@ -1,7 +1,7 @@
 -- Each public function's own contract takes every input and leaves one outcome.
 -- Assumes nothing.
 use mathlib.Core.Path.{refl}
-use Rattle.wire.proofs.One.{One, both, pair}
+use Rattle.wire.proofs.One.{One, both}
 use Rattle.rct_edit.proofs.most_links.Kinds as most-links-kinds
 use Rattle.rct_edit.proofs.most_links.Reads as most-links-reads
 use Rattle.rct_edit.proofs.filler.Kinds as filler-kinds

@@ -4,11 +4,10 @@ use Prim.Native.Nat.{ℕ, _+_, _%_, _≤_, _<_}
 use mathlib.Core.Path.{_≡_, refl, ap, _∙_}
 use mathlib.Core.Logic.{_≢_}
 use mathlib.Core.Bool.{Bool, false}
-use mathlib.Core.List.{List}
 use native.Mathlib.Omega.{arith}
 use lib.ListN.{length, getD, set}
 use lib.Seq.{getD-set-same, getD-set-other}
-use Rattle.number_set.specs.Members.{size, members, ofMembers, Fits}
+use Rattle.number_set.specs.Members.{size, members, Fits}
 use Rattle.number_set.specs.declared.NumberSet.{NumberSet}
 use Rattle.number_set.proofs.Sets.{length-members, members-with}
 use Rattle.rct_index.specs.Index.{told, withMarks}

@@ -1,12 +1,14 @@
 -- When an index can be built, what it then tells, which numbers building answers; and the index that an edit answers is the one that is built afresh of the new section, if the one handed in was the old section's.
 -- Assumes nothing.
-use Prim.Native.Nat.{ℕ, _≤_, _<_}
+use Prim.Native.Nat.{ℕ, _+_, _≤_, _<_}
 use mathlib.Core.Path.{_≡_, refl, sym, ap, _∙_}
 use mathlib.Core.Logic.{_↔_}
 use mathlib.Core.List.{List, [], _∷_, _++_}
 use native.Mathlib.Omega.{arith}
 use lib.ListN.{length, getD}
-use Rattle.wire.specs.Lists.{Bytes}
+use Rattle.wire.specs.Lists.{Bytes, part}
+use Rattle.wire.specs.Lengths.{lengthAt}
+use Rattle.wire.proofs.Lists.{length-part}
 use Rattle.wire.specs.Refusals.{descriptorCut}
 use Rattle.wire.specs.Verdict.{bad}
 use Rattle.wire.specs.declared.verdict.Refusal.{Refusal}
@@ -26,10 +28,10 @@ use Rattle.link.specs.declared.LinkInfo.{LinkInfo}
 use Rattle.link_draft.specs.Carried.{Carried}
 use Rattle.link_draft.specs.Checks.{checkLink}
 use Rattle.link_draft.proofs.Exact.{check-fits}
-use Rattle.frame.specs.Reading.{plainDemands}
+use Rattle.frame.specs.Reading.{payloadEnd, plainDemands}
 use Rattle.rct.specs.Syntax.{Section, Fits, fullLength, entryPlace}
-use Rattle.rct.specs.Reading.{numberRow, sectionAt, plain, checked}
-use Rattle.rct.proofs.Accepted.{accepted-fits}
+use Rattle.rct.specs.Reading.{countAt, loopPlace, numberRow, sectionAt, plain, checked}
+use Rattle.rct.proofs.Accepted.{accepted, accepted-fits, place-is}
 use Rattle.rct.proofs.Checked.{Holds, holds-known, checked-holds, checked-iff, count-is, number-passed}
 use Rattle.rct.proofs.Listed.{plainReading, plain-listed}
 use Rattle.rct_edit.specs.Edit.{mostLinks, withLink, withNext, written, countRow, replaceVerdict, appendVerdict, Outcome, replaced, appended}
@@ -130,6 +132,21 @@ build-cut xs q n b = (to, from)
 
     from : (plain xs ≡ Fine) × Cut p body q n → buildVerdict xs ≡ bad descriptorCut q n
     from w = go-on (plain xs) _ (w .0) ∙ exactly .1 (w .1)
+
+-- that place: the loop's bytes stand there, up to the CRC
+pub record Stands (xs : List ℕ) : Type 0 where
+  pub end : descriptorPlace (sectionAt xs) + length (sectionAt xs .loop .body) ≡ payloadEnd xs
+  pub bytes : part xs (descriptorPlace (sectionAt xs)) (length (sectionAt xs .loop .body)) ≡ sectionAt xs .loop .body
+
+pub loop-stands : (xs : List ℕ) → Bytes xs → plain xs ≡ Fine → Stands xs
+unfolding sectionAt
+loop-stands xs b v =
+    let a = accepted plainDemands xs b v in
+    let p : descriptorPlace (sectionAt xs) ≡ loopPlace xs + 2 =
+    ap (λ q. q + 2) (ap (entryPlace (sectionAt xs)) (count-is xs) ∙ sym (place-is plainDemands xs b v (countAt xs) (omega arith))) in
+    let n : length (part xs (loopPlace xs + 2) (lengthAt xs (loopPlace xs))) ≡ lengthAt xs (loopPlace xs) =
+    length-part xs (loopPlace xs + 2) (lengthAt xs (loopPlace xs)) (omega (arith, a .loop-end, a .frame .within)) in
+    record { end = omega (arith, p, n, a .loop-end); bytes = λ i. part xs (p i) (n i) }
 
 -- ---- the numbers that building answers: the plain reading's, and 39
 

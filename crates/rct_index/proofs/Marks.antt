@@ -12,7 +12,7 @@ use lib.ListN.{getD}
 use Rattle.link.specs.Syntax.{headLength, uriDue, locatorDue}
 use Rattle.link.specs.Reading.{typeAt, uriStart, locatorGot, locatorIn, linkAt}
 use Rattle.link.specs.Records as records
-use Rattle.link.specs.Records.{rangeOf, uriOf, locatorOf, linkOf, fieldsAt}
+use Rattle.link.specs.Records.{uriOf, locatorOf, linkOf, fieldsAt}
 use Rattle.link.specs.declared.LinkInfo.{LinkInfo}
 use Rattle.link.specs.declared.LinkLocator.{LinkLocator}
 use Rattle.link.specs.declared.LinkLocator.the-variants as locator

@@ -1,9 +1,9 @@
 -- The sets: link k is in a set exactly if it has the property, the count is the number of links that have it, and what an edit makes of the sets of the old links are the sets of the new ones.
 -- Assumes nothing.
 use Prim.Native.Nat.{ℕ, _≤_, _<_}
-use mathlib.Core.Path.{_≡_, refl, ap}
+use mathlib.Core.Path.{_≡_}
 use mathlib.Core.Bool.{Bool, false}
-use mathlib.Core.List.{List, [], _∷_, _++_, map}
+use mathlib.Core.List.{List, [], _∷_, _++_}
 use native.Mathlib.Omega.{arith}
 use lib.ListN.{length, getD, set, length-map}
 use Rattle.number_set.specs.Members.{size, members, ofMembers, trues}

@@ -46,7 +46,7 @@ filled-more ps q h =
 
 pub length-places : (p : ℕ) (ls : List Link) → length (entryPlaces p ls) ≡ length ls
 length-places p [] = refl
-length-places p (l ∷ ls) = ap suc (length-places (p + length (blockBytes (entryOf l))) ls)
+length-places p (l ∷ ls) = ap suc (length-places _ ls)
 
 pub places-at : (p : ℕ) (ls : List Link) (k : ℕ) → k < length ls → getD (entryPlaces p ls) k 0 ≡ p + length (linksBytes (take k ls))
 places-at p [] k h = absurd (not-suc-le-zero h)

@@ -1,27 +1,27 @@
 -- What is built of a section's payload is what is built of the section, refused or not.
 -- Assumes nothing.
-use Prim.Native.Nat.{ℕ, _+_, _-_, _≤_, min}
+use Prim.Native.Nat.{ℕ, _+_, _-_, _≤_}
 use mathlib.Core.Path.{_≡_, refl, sym, ap, _∙_}
 use mathlib.Core.List.{List}
 use native.Mathlib.Omega.{arith}
 use lib.ListN.{length, take, drop}
 use lib.Seq.{length-take-le}
 use Rattle.wire.specs.Lists.{Bytes, part}
-use Rattle.wire.specs.Lengths.{lengthAt, blockEnd}
+use Rattle.wire.specs.Lengths.{lengthAt}
 use Rattle.wire.specs.Refusals.{loopCut, loopTooLong, sectionSlack}
 use Rattle.wire.specs.Verdict.{_▷_}
 use Rattle.wire.specs.declared.verdict.Refusal.{Refusal}
 use Rattle.wire.specs.declared.verdict.Verdict.{Verdict}
 use Rattle.wire.specs.declared.verdict.Verdict.the-variants.{Fine, Refused}
 use Rattle.wire.proofs.Blocks.{last-passed}
-use Rattle.wire.proofs.Verdicts.{then-fine, fine-then, go-on, refused-then, then-assoc}
+use Rattle.wire.proofs.Verdicts.{then-fine, fine-then, go-on, refused-then}
 use Rattle.descriptors.specs.Reading.{descriptorsOf, cutVerdict}
 use Rattle.frame.specs.Syntax.{longestPayload}
 use Rattle.frame.specs.Reading.{payloadEnd, plainDemands, opened}
 use Rattle.frame.proofs.Opening.{Opened, opened-fine}
 use Rattle.frame.proofs.Readings.{reading-rows, reading-closed}
 use Rattle.rct.specs.Syntax.{headLength, rct, entryPlace}
-use Rattle.rct.specs.Reading.{countAt, after, linksAt, loopPlace, linksVerdict, loopVerdict, payloadVerdict, plain, sectionAt}
+use Rattle.rct.specs.Reading.{countAt, after, loopPlace, linksVerdict, loopVerdict, payloadVerdict, plain, sectionAt}
 use Rattle.rct.proofs.Accepted.{place-is}
 use Rattle.rct.proofs.Checked.{count-is}
 use Rattle.rct.proofs.Payload.{drop-take, loop-same, links-same, links-alike}

@@ -5,11 +5,10 @@ use mathlib.Core.Path.{_≡_, refl, sym, ap, _∙_}
 use mathlib.Core.List.{List, [], _∷_, _++_}
 use native.Mathlib.Numerals.{add-one}
 use native.Mathlib.Omega.{arith}
-use lib.ListN.{length, set, take, drop, length-drop}
+use lib.ListN.{length, set, drop, length-drop}
 use lib.Seq.{take-all}
 use Rattle.wire.specs.Lists.{Bytes}
 use Rattle.wire.specs.Lengths.{besideAt, blockEnd}
-use Rattle.wire.specs.Verdict.{_▷_}
 use Rattle.wire.specs.declared.verdict.Refusal.{Refusal}
 use Rattle.wire.specs.declared.verdict.Verdict.{Verdict}
 use Rattle.wire.specs.declared.verdict.Verdict.the-variants.{Fine, Refused}
@@ -20,16 +19,15 @@ use Rattle.descriptors.specs.declared.DescriptorsCounted.the-variants as count
 use Rattle.descriptors.proofs.Loops.{count-le}
 use Rattle.descriptors.proofs.Answers.{counted-number, counted-refused, refused-counted}
 use Rattle.link.specs.Syntax.{Link}
-use Rattle.link.specs.Records.{fieldsAt}
 use Rattle.link.specs.declared.LinkFields.{LinkFields}
 use Rattle.rct.specs.Syntax.{headLength, linksBytes}
-use Rattle.rct.specs.Reading.{bodyIn, linkIn, after, linksAt, entryVerdict, linksVerdict, loopVerdict}
+use Rattle.rct.specs.Reading.{bodyIn, linkIn, after, linksAt, linksVerdict, loopVerdict}
 use Rattle.rct.proofs.Links.{place-of, links-sum, length-linksAt}
 use Rattle.rct_edit.specs.Edit.{mostLinks}
 use Rattle.rct_walker.specs.Entries.{endOf, entryRead}
 use Rattle.rct_walker.specs.declared.entry.EntryRead.the-variants as entry
 use Rattle.rct_walker.proofs.EntryLaws.{EntryHad, entry-had, entry-had-none}
-use Rattle.rct_walker.proofs.Walks.{after-next, turn-on, turn-stop, walk-done}
+use Rattle.rct_walker.proofs.Walks.{after-next, turn-on, turn-stop}
 use Rattle.rct_index.specs.Index.{linkMarks, marksIn, setsOf, withMarks, entryPlaces, filledPlaces, noIndex}
 use Rattle.rct_index.specs.Building.{built}
 use Rattle.rct_index.specs.declared.LinkSets.{LinkSets}

@@ -1,5 +1,5 @@
 -- `replace` meets its contract. Assumes nothing.
-use mathlib.Core.Path.{_≡_, sym, _∙_}
+use mathlib.Core.Path.{sym, _∙_}
 use Rattle.wire.proofs.Lists.{bytes-known}
 use Rattle.rct_index_editor.proofs.Edits.{replace-numbers, replace-goes, replace-stops}
 use borrow.Author.Needs.{needs}

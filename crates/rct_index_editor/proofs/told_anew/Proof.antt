@@ -1,9 +1,7 @@
 -- `told_anew` meets its contract: the places up to number j are told anew. Assumes nothing.
 use Prim.Native.Nat.{_+_, _-_, _≤_, _<_, max}
-use mathlib.Core.Path.{_≡_, sym, ap, _∙_}
+use mathlib.Core.Path.{_≡_}
 use native.Mathlib.Omega.{arith}
-use Rattle.rct_edit.specs.Edit.{mostLinks}
-use Rattle.rct_index.specs.Index.{withMarks}
 use Rattle.rct_index.specs.Editing.{toldAnew}
 use Rattle.rct_index_editor.proofs.Steps.{upTo, step-first, step-on, step-last}
 use borrow.Author.Needs.{needs}

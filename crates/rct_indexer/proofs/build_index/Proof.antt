@@ -1,6 +1,6 @@
 -- `build_index` meets its contract. Assumes nothing.
 use Prim.Native.Nat.{_-_}
-use mathlib.Core.Path.{_≡_, sym, ap, _∙_}
+use mathlib.Core.Path.{sym, ap, _∙_}
 use native.Mathlib.Omega.{arith}
 use lib.Seq.{length-take-le}
 use Rattle.wire.proofs.Lists.{bytes-known}
@@ -11,7 +11,7 @@ use Rattle.rct.specs.Syntax.{rct}
 use Rattle.rct_index.specs.Building.{building}
 use Rattle.rct_indexer.proofs.Walks.{refused-built}
 use Rattle.rct_indexer.proofs.Sections.{closed, short, built-is}
-use mathlib.Core.Path.{_≡_, sym, _∙_}
+use mathlib.Core.Path.{sym, _∙_}
 use borrow.Author.Needs.{needs}
 use Rattle.rct_indexer.proofs.build_index.Statement.{statement}
 use Rattle.rct_indexer.proofs.build_index.Tie as tie

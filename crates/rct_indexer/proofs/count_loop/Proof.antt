@@ -1,7 +1,7 @@
 -- `count_loop` meets its contract. Assumes nothing.
-use mathlib.Core.Path.{_≡_, sym, _∙_}
+use mathlib.Core.Path.{sym, _∙_}
 use Rattle.rct_indexer.proofs.Walks.{tail-on, tail-stops}
-use mathlib.Core.Path.{_≡_, sym, ap, _∙_}
+use mathlib.Core.Path.{sym, _∙_}
 use borrow.Author.Needs.{needs}
 use Rattle.rct_indexer.proofs.count_loop.Statement.{statement}
 use Rattle.rct_indexer.proofs.count_loop.Tie as tie

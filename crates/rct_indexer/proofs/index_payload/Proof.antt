@@ -1,9 +1,8 @@
 -- `index_payload` meets its contract: the links before number k are told of, and the walk stands behind them. Assumes nothing.
 use Prim.Native.Nat.{_-_}
-use mathlib.Core.Path.{_≡_, sym, ap, _∙_}
+use mathlib.Core.Path.{sym, _∙_}
 use native.Mathlib.Omega.{arith}
 use Rattle.wire.proofs.Lists.{bytes-known}
-use Rattle.rct_index.specs.Index.{withMarks}
 use Rattle.rct_indexer.proofs.Walks.{Walking, walk-start, walk-stops, walk-on, walk-cut, walk-few, walk-ends, refused-built}
 use borrow.Author.Needs.{needs}
 use Rattle.rct_indexer.proofs.index_payload.Statement.{statement}

@@ -1,5 +1,5 @@
 -- `append` meets its contract. Assumes nothing.
-use mathlib.Core.Path.{_≡_, ap, _∙_}
+use mathlib.Core.Path.{ap, _∙_}
 use Rattle.rct_edit.specs.Answers.{editedBy}
 use Rattle.rct_edit.proofs.Placed.{appending-edited}
 use borrow.Author.Needs.{needs}

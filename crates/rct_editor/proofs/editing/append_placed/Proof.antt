@@ -1,5 +1,5 @@
 -- `append_placed` meets its contract. Assumes nothing.
-use mathlib.Core.Path.{_≡_, sym, ap, _∙_}
+use mathlib.Core.Path.{sym, ap, _∙_}
 use native.Mathlib.Omega.{arith}
 use Rattle.wire.proofs.Lists.{bytes-known}
 use Rattle.rct_walker.specs.declared.RctPlaces.{RctPlaces}

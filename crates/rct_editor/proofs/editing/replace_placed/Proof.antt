@@ -1,5 +1,5 @@
 -- `replace_placed` meets its contract. Assumes nothing.
-use mathlib.Core.Path.{_≡_, sym, ap, _∙_}
+use mathlib.Core.Path.{sym, ap, _∙_}
 use native.Mathlib.Omega.{arith}
 use Rattle.wire.proofs.Lists.{bytes-known, bytes-at}
 use Rattle.rct.specs.Syntax.{linkCountPlace}

@@ -1,5 +1,4 @@
 -- `none` meets its contract. Assumes nothing.
-use mathlib.Core.Path.{_≡_, _∙_}
 use Rattle.number_set.proofs.Sets.{of-none}
 use Rattle.rct_index.specs.Index.{setsOf}
 use borrow.Author.Needs.{needs}

@@ -1,5 +1,5 @@
 -- `place` meets its contract. Assumes nothing.
-use mathlib.Core.Path.{_≡_, sym}
+use mathlib.Core.Path.{sym}
 use lib.ListN.{List·getD-eq-default}
 use borrow.Author.Needs.{needs}
 use Rattle.rct_index.proofs.RctIndex.place.Statement.{statement}

@@ -1,6 +1,4 @@
 -- `check_loop` meets its contract. Assumes nothing.
-use mathlib.Core.Path.{_≡_, sym, ap, _∙_}
-use Rattle.rct.specs.Reading.{loopVerdict}
 use borrow.Author.Needs.{needs}
 use Rattle.rct_walker.proofs.entry.check_loop.Statement.{statement}
 use Rattle.rct_walker.proofs.entry.check_loop.Tie as tie

@@ -1,5 +1,5 @@
 -- `past_rest` meets its contract. Assumes nothing.
-use mathlib.Core.Path.{_≡_, sym, ap, _∙_}
+use mathlib.Core.Path.{sym, ap, _∙_}
 use native.Mathlib.Omega.{arith}
 use Rattle.wire.proofs.Verdicts.{at-reached, refused-reached, reached-at, reached-refused}
 use Rattle.rct.specs.Reading.{loopVerdict}

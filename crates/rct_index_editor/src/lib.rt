@@ -1,7 +1,6 @@
 // Appending and replacing with an index, which is brought up from what the edit answers: the section is not read again.
 ghost use mathlib.Core.Path.{_≡_};
-ghost use Prim.Native.Nat.{_≤_, _<_};
-ghost use Rattle.rct_edit.specs.Edit.{mostLinks};
+ghost use Prim.Native.Nat.{_≤_};
 ghost use Rattle.rct_edit.specs.Calls.{appending, replacing};
 ghost use Rattle.rct_index.specs.Editing.{turns, movedPlace, toldAnew, appendingIndexed, replacingIndexed};
 ghost use Rattle.rct_index_editor.specs.Stages.{Numbers};

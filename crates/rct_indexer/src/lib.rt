@@ -72,9 +72,7 @@ fn index_payload(payload: &[u8], links: u8) -> IndexBuilt
                 at = next;
                 k += 1;
             }
-            EntryRead::Refused(r) => {
-                return IndexBuilt::refused(r);
-            }
+            EntryRead::Refused(r) => return IndexBuilt::refused(r),
         }
     }
     let counted = count_loop(payload, at);

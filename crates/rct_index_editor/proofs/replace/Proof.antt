@@ -20,9 +20,13 @@ accepted-requires c κs = search needs
 
 told-anew-requires : tie.Need-told-anew-requires
 told-anew-requires c κs =
-    let put = sym (c .before .before .before .before .before .before .replace-placed .ensures .0) ∙ c .before .before .put .given .1 in
-    let b = bytes-known (c .before .before .before .before .before .before .before .before .before .before .before .before .args .b .now) (c .before .before .before .before .before .before .before .before .before .before .before .slice-known .given) in
-    replace-numbers (c .before .before .before .before .before .before .before .before .before .before .before .before .args .b .now) (c .before .before .before .before .before .before .before .before .before .before .before .before .args .number) (c .before .before .before .before .before .before .before .before .before .before .before .before .args .text .now) (c .before .before .before .before .before .before .before .before .before .before .before .before .args .link) (c .before .before .before .before .before .before .before .before .before .before .before .before .args .index) b _ _ _ _ put
+    let replace-placed = c .before .before .before .before .before .before .replace-placed in
+    let answered = c .before .before .put in
+    let args = c .before .before .before .before .before .before .before .before .before .before .before .before .args in
+    let slice-known = c .before .before .before .before .before .before .before .before .before .before .before .slice-known in
+    let put = sym (replace-placed .ensures .0) ∙ answered .given .1 in
+    let b = bytes-known (args .b .now) (slice-known .given) in
+    replace-numbers (args .b .now) (args .number) (args .text .now) (args .link) (args .index) b _ _ _ _ put
 
 enum-known-put-2 : tie.Need-enum-known-put-2
 enum-known-put-2 c = search needs
@@ -35,17 +39,25 @@ same-length c = search needs
 
 returns : tie.Need-returns
 returns c =
-    let put = sym (c .before .before .before .before .before .before .before .replace-placed .ensures .0) ∙ c .before .before .before .put .given .1 in
-    let b = bytes-known (c .before .before .before .before .before .before .before .before .before .before .before .before .before .args .b .now) (c .before .before .before .before .before .before .before .before .before .before .before .before .slice-known .given) in
-    (replace-goes (c .before .before .before .before .before .before .before .before .before .before .before .before .before .args .b .now) (c .before .before .before .before .before .before .before .before .before .before .before .before .before .args .number) (c .before .before .before .before .before .before .before .before .before .before .before .before .before .args .text .now) (c .before .before .before .before .before .before .before .before .before .before .before .before .before .args .link) (c .before .before .before .before .before .before .before .before .before .before .before .before .before .args .index) b _ _ _ _ put _ _ _ (c .before .accepted .ensures) (c .before .before .before .before .before .before .before .before .before .of .ensures) (c .told-anew .ensures), c .before .before .before .before .before .before .before .replace-placed .ensures .1)
+    let replace-placed = c .before .before .before .before .before .before .before .replace-placed in
+    let answered = c .before .before .before .put in
+    let args = c .before .before .before .before .before .before .before .before .before .before .before .before .before .args in
+    let slice-known = c .before .before .before .before .before .before .before .before .before .before .before .before .slice-known in
+    let marks = c .before .before .before .before .before .before .before .before .before .of in
+    let put = sym (replace-placed .ensures .0) ∙ answered .given .1 in
+    let b = bytes-known (args .b .now) (slice-known .given) in
+    (replace-goes (args .b .now) (args .number) (args .text .now) (args .link) (args .index) b _ _ _ _ put _ _ _ (c .before .accepted .ensures) (marks .ensures) (c .told-anew .ensures), replace-placed .ensures .1)
 
 same-length-2 : tie.Need-same-length-2
 same-length-2 c = search needs
 
 returns-2 : tie.Need-returns-2
 returns-2 c =
-    let put = sym (c .before .before .before .before .before .before .replace-placed .ensures .0) ∙ c .before .before .put2 .given .1 in
-    (replace-stops (c .before .before .before .before .before .before .before .before .before .before .before .before .args .b .now) (c .before .before .before .before .before .before .before .before .before .before .before .before .args .number) (c .before .before .before .before .before .before .before .before .before .before .before .before .args .text .now) (c .before .before .before .before .before .before .before .before .before .before .before .before .args .link) (c .before .before .before .before .before .before .before .before .before .before .before .before .args .index) _ _ put (c .refused .ensures), c .before .before .before .before .before .before .replace-placed .ensures .1)
+    let replace-placed = c .before .before .before .before .before .before .replace-placed in
+    let answered = c .before .before .put2 in
+    let args = c .before .before .before .before .before .before .before .before .before .before .before .before .args in
+    let put = sym (replace-placed .ensures .0) ∙ answered .given .1 in
+    (replace-stops (args .b .now) (args .number) (args .text .now) (args .link) (args .index) _ _ put (c .refused .ensures), replace-placed .ensures .1)
 
 pub replace-spec : {M : Type 1} → statement M
 replace-spec =

@@ -16,49 +16,52 @@ abbrev μ-loop : tie.MeasureT-loop
 μ-loop index number count at old new marks sets places₀ j₀ places j = count - j
 
 cast-places : tie.Need-cast-places Inv-loop μ-loop
-cast-places c = omega (arith, c .before .before .pre .place)
+cast-places c = search needs
 
 mul-places : tie.Need-mul-places Inv-loop μ-loop
 mul-places c = search needs
 
 array-write-places : tie.Need-array-write-places Inv-loop μ-loop
-array-write-places c = omega (arith, c .before .before .pre .number)
+array-write-places c = search needs
 
 add-j : tie.Need-add-j Inv-loop μ-loop
-add-j c = omega (arith, c .before .before .pre .number)
+add-j c = search needs
 
 loop-holds : tie.Need-loop-holds Inv-loop μ-loop
 loop-holds c =
-    (omega arith, (omega arith, step-first (c .before .before .args .number) (c .before .before .args .count) (c .before .before .args .at) (c .before .before .args .old) (c .before .before .args .new) (c .before .before .args .index .places)))
+    let args = c .before .before .args in
+    (omega arith, (omega arith, step-first (args .number) (args .count) (args .at) (args .old) (args .new) (args .index .places)))
 
 mul-moved : tie.Need-mul-moved Inv-loop μ-loop
 mul-moved c = search needs
 
 array-read-moved : tie.Need-array-read-moved Inv-loop μ-loop
-array-read-moved c = omega (arith, c .before .before .before .before .pre .count)
+array-read-moved c = search needs
 
 moved-requires : tie.Need-moved-requires Inv-loop μ-loop
-moved-requires c κs = (c .before .before .before .before .pre .before, c .before .before .before .before .pre .total)
+moved-requires c κs = search needs
 
 mul-places-2 : tie.Need-mul-places-2 Inv-loop μ-loop
 mul-places-2 c = search needs
 
 array-write-places-2 : tie.Need-array-write-places-2 Inv-loop μ-loop
-array-write-places-2 c = omega (arith, c .before .before .before .before .before .pre .count)
+array-write-places-2 c = search needs
 
 add-j-2 : tie.Need-add-j-2 Inv-loop μ-loop
-add-j-2 c = omega (arith, c .before .before .before .before .before .pre .count)
+add-j-2 c = search needs
 
 loop-less : tie.Need-loop-less Inv-loop μ-loop
 loop-less c = search needs
 
 loop-again : tie.Need-loop-again Inv-loop μ-loop
 loop-again c =
-    let step = step-on (c .before .before .before .before .before .args .number) (c .before .before .before .before .before .args .count) (c .before .before .before .before .before .args .at) (c .before .before .before .before .before .args .old) (c .before .before .before .before .before .args .new) (c .before .before .before .before .before .args .index .places) (c .before .before .loop .j) (c .before .before .loop .inv .0) _ in
-    (omega arith, (omega arith, rw (c .before .before .loop .inv .1 .1) (step (rw (c .before .before .loop .inv .1 .1) at (c .moved .ensures)))))
+    let args = c .before .before .before .before .before .args in
+    let loop = c .before .before .loop in
+    let step = step-on (args .number) (args .count) (args .at) (args .old) (args .new) (args .index .places) (loop .j) (loop .inv .0) _ in
+    (omega arith, (omega arith, rw (loop .inv .1 .1) (step (rw (loop .inv .1 .1) at (c .moved .ensures)))))
 
 cast-with : tie.Need-cast-with Inv-loop μ-loop
-cast-with c = omega (arith, c .before .before .before .before .pre .number)
+cast-with c = search needs
 
 with-requires : tie.Need-with-requires Inv-loop μ-loop
 with-requires c κs = search needs
@@ -66,8 +69,10 @@ with-requires c κs = search needs
 returns : tie.Need-returns Inv-loop μ-loop
 unfolding toldAnew
 returns c =
-    let done = step-last (c .before .before .before .before .before .args .number) (c .before .before .before .before .before .args .count) (c .before .before .before .before .before .args .at) (c .before .before .before .before .before .args .old) (c .before .before .before .before .before .args .new) (c .before .before .before .before .before .args .index .places) (c .before .before .loop .j) (c .before .before .loop .inv .0) (c .before .before .loop .inv .1 .0) (c .before .loop-test .left) in
-    rw (c .with .ensures, c .before .before .loop .inv .1 .1, done)
+    let args = c .before .before .before .before .before .args in
+    let loop = c .before .before .loop in
+    let done = step-last (args .number) (args .count) (args .at) (args .old) (args .new) (args .index .places) (loop .j) (loop .inv .0) (loop .inv .1 .0) (c .before .loop-test .left) in
+    rw (c .with .ensures, loop .inv .1 .1, done)
 
 pub told-anew-spec : {M : Type 1} → statement M
 told-anew-spec =

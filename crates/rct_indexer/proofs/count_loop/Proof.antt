@@ -1,7 +1,6 @@
 -- `count_loop` meets its contract. Assumes nothing.
 use mathlib.Core.Path.{sym, _∙_}
 use Rattle.rct_indexer.proofs.Walks.{tail-on, tail-stops}
-use mathlib.Core.Path.{sym, _∙_}
 use borrow.Author.Needs.{needs}
 use Rattle.rct_indexer.proofs.count_loop.Statement.{statement}
 use Rattle.rct_indexer.proofs.count_loop.Tie as tie
@@ -23,11 +22,15 @@ enum-known-v c = search needs
 
 returns : tie.Need-returns
 returns c =
-    tail-on (c .before .before .before .before .before .args .payload .now) (c .before .before .before .before .before .args .at) _ (sym (c .before .before .before .check-loop .ensures) ∙ c .before .enum-told .given .1) (c .count-descriptors .ensures)
+    let args = c .before .before .before .before .before .args in
+    let check-loop = c .before .before .before .check-loop in
+    tail-on (args .payload .now) (args .at) _ (sym (check-loop .ensures) ∙ c .before .enum-told .given .1) (c .count-descriptors .ensures)
 
 returns-2 : tie.Need-returns-2
 returns-2 c =
-    tail-stops (c .before .before .before .before .before .args .payload .now) (c .before .before .before .before .before .args .at) _ (sym (c .before .before .before .check-loop .ensures) ∙ c .before .v .given .1)
+    let args = c .before .before .before .before .before .args in
+    let check-loop = c .before .before .before .check-loop in
+    tail-stops (args .payload .now) (args .at) _ (sym (check-loop .ensures) ∙ c .before .v .given .1)
 
 pub count-loop-spec : {M : Type 1} → statement M
 count-loop-spec =

@@ -25,7 +25,8 @@ cast-at c = search needs
 
 loop-holds : tie.Need-loop-holds Inv-loop μ-loop
 loop-holds c =
-    walk-start (c .before .before .before .args .payload .now) (c .before .before .before .args .links) _ (c .none .ensures)
+    let args = c .before .before .before .args in
+    walk-start (args .payload .now) (args .links) _ (c .none .ensures)
 
 read-entry-requires : tie.Need-read-entry-requires Inv-loop μ-loop
 read-entry-requires c κs = search needs
@@ -34,8 +35,7 @@ enum-known-entry : tie.Need-enum-known-entry Inv-loop μ-loop
 enum-known-entry c = search needs
 
 cast-with : tie.Need-cast-with Inv-loop μ-loop
-cast-with c =
-    omega (arith, c .before .before .before .before .loop-test .taken, c .before .before .before .before .before .before .before .wide .ensures)
+cast-with c = search needs
 
 of-requires : tie.Need-of-requires Inv-loop μ-loop
 of-requires c κs = search needs
@@ -47,21 +47,25 @@ mul-places : tie.Need-mul-places Inv-loop μ-loop
 mul-places c = search needs
 
 array-write-places : tie.Need-array-write-places Inv-loop μ-loop
-array-write-places c =
-    omega (arith, c .before .before .before .before .before .before .loop-test .taken, c .before .before .before .before .before .before .before .before .before .wide .ensures)
+array-write-places c = search needs
 
 add-k : tie.Need-add-k Inv-loop μ-loop
-add-k c =
-    omega (arith, c .before .before .before .before .before .before .loop-test .taken, c .before .before .before .before .before .before .before .before .before .wide .ensures)
+add-k c = search needs
 
 loop-less : tie.Need-loop-less Inv-loop μ-loop
-loop-less c =
-    omega (arith, c .before .before .before .before .before .before .loop-test .taken, c .before .before .before .before .before .before .before .before .before .wide .ensures)
+loop-less c = search needs
 
 loop-again : tie.Need-loop-again Inv-loop μ-loop
 loop-again c =
-    let b = bytes-known (c .before .before .before .before .before .before .before .before .before .before .before .args .payload .now) (c .before .before .before .before .before .before .before .before .before .before .shared-slice-known .given) in
-    walk-on (c .before .before .before .before .before .before .before .before .before .before .before .args .payload .now) (c .before .before .before .before .before .before .before .before .before .before .before .args .links) b (omega (arith, c .before .before .before .before .before .before .before .before .before .wide .ensures)) (c .before .before .before .before .before .before .before .loop .k) (c .before .before .before .before .before .before .before .loop .at) (c .before .before .before .before .before .before .before .loop .sets) (c .before .before .before .before .before .before .before .loop .places) (c .before .before .before .before .before .before .before .loop .inv) (omega (arith, c .before .before .before .before .before .before .loop-test .taken, c .before .before .before .before .before .before .before .before .before .wide .ensures)) _ _ _ _ (sym (c .before .before .before .before .before .read-entry .ensures) ∙ c .before .before .before .entry .given .1) (rw (c .before .of .ensures) at (c .with .ensures))
+    let args = c .before .before .before .before .before .before .before .before .before .before .before .args in
+    let shared-slice-known = c .before .before .before .before .before .before .before .before .before .before .shared-slice-known in
+    let wide = c .before .before .before .before .before .before .before .before .before .wide in
+    let loop = c .before .before .before .before .before .before .before .loop in
+    let loop-test = c .before .before .before .before .before .before .loop-test in
+    let read-entry = c .before .before .before .before .before .read-entry in
+    let entry = c .before .before .before .entry in
+    let b = bytes-known (args .payload .now) (shared-slice-known .given) in
+    walk-on (args .payload .now) (args .links) b (omega (arith, wide .ensures)) (loop .k) (loop .at) (loop .sets) (loop .places) (loop .inv) (omega (arith, loop-test .taken, wide .ensures)) _ _ _ _ (sym (read-entry .ensures) ∙ entry .given .1) (rw (c .before .of .ensures) at (c .with .ensures))
 
 enum-known-entry-2 : tie.Need-enum-known-entry-2 Inv-loop μ-loop
 enum-known-entry-2 c = search needs
@@ -71,8 +75,15 @@ refused-requires c κs = search needs
 
 returns : tie.Need-returns Inv-loop μ-loop
 returns c =
-    let b = bytes-known (c .before .before .before .before .before .before .before .before .before .before .args .payload .now) (c .before .before .before .before .before .before .before .before .before .shared-slice-known .given) in
-    refused-built _ _ _ _ (c .refused .ensures) (walk-stops (c .before .before .before .before .before .before .before .before .before .before .args .payload .now) (c .before .before .before .before .before .before .before .before .before .before .args .links) b (omega (arith, c .before .before .before .before .before .before .before .before .wide .ensures)) (c .before .before .before .before .before .before .loop .k) (c .before .before .before .before .before .before .loop .at) (c .before .before .before .before .before .before .loop .sets) (c .before .before .before .before .before .before .loop .places) (c .before .before .before .before .before .before .loop .inv) (omega (arith, c .before .before .before .before .before .loop-test .taken, c .before .before .before .before .before .before .before .before .wide .ensures)) _ (sym (c .before .before .before .before .read-entry .ensures) ∙ c .before .before .entry2 .given .1))
+    let args = c .before .before .before .before .before .before .before .before .before .before .args in
+    let shared-slice-known = c .before .before .before .before .before .before .before .before .before .shared-slice-known in
+    let wide = c .before .before .before .before .before .before .before .before .wide in
+    let loop = c .before .before .before .before .before .before .loop in
+    let loop-test = c .before .before .before .before .before .loop-test in
+    let read-entry = c .before .before .before .before .read-entry in
+    let entry2 = c .before .before .entry2 in
+    let b = bytes-known (args .payload .now) (shared-slice-known .given) in
+    refused-built _ _ _ _ (c .refused .ensures) (walk-stops (args .payload .now) (args .links) b (omega (arith, wide .ensures)) (loop .k) (loop .at) (loop .sets) (loop .places) (loop .inv) (omega (arith, loop-test .taken, wide .ensures)) _ (sym (read-entry .ensures) ∙ entry2 .given .1))
 
 count-loop-requires : tie.Need-count-loop-requires Inv-loop μ-loop
 count-loop-requires c κs = search needs
@@ -82,7 +93,13 @@ enum-known-counted c = search needs
 
 cast-t24 : tie.Need-cast-t24 Inv-loop μ-loop
 cast-t24 c =
-    omega (arith, c .before .before .before .before .before .before .before .before .before .pre, walk-few (c .before .before .before .before .before .before .before .before .before .args .payload .now) (c .before .before .before .before .before .before .before .before .before .args .links) (c .before .before .before .before .before .loop .k) (c .before .before .before .before .before .loop .at) (c .before .before .before .before .before .loop .sets) (c .before .before .before .before .before .loop .places) (c .before .before .before .before .before .loop .inv) (omega (arith, c .before .before .before .before .loop-test .left, c .before .before .before .before .before .before .before .wide .ensures)) _ _ (c .before .before .before .count-loop .ensures) (c .before .counted .given .1))
+    let pre = c .before .before .before .before .before .before .before .before .before .pre in
+    let args = c .before .before .before .before .before .before .before .before .before .args in
+    let loop = c .before .before .before .before .before .loop in
+    let loop-test = c .before .before .before .before .loop-test in
+    let wide = c .before .before .before .before .before .before .before .wide in
+    let count-loop = c .before .before .before .count-loop in
+    omega (arith, pre, walk-few (args .payload .now) (args .links) (loop .k) (loop .at) (loop .sets) (loop .places) (loop .inv) (omega (arith, loop-test .left, wide .ensures)) _ _ (count-loop .ensures) (c .before .counted .given .1))
 
 enum-known-counted-2 : tie.Need-enum-known-counted-2 Inv-loop μ-loop
 enum-known-counted-2 c = search needs
@@ -92,11 +109,22 @@ refused-requires-2 c κs = search needs
 
 returns-2 : tie.Need-returns-2 Inv-loop μ-loop
 returns-2 c =
-    walk-ends (c .before .before .before .before .before .before .before .before .before .args .payload .now) (c .before .before .before .before .before .before .before .before .before .args .links) (c .before .before .before .before .before .loop .k) (c .before .before .before .before .before .loop .at) (c .before .before .before .before .before .loop .sets) (c .before .before .before .before .before .loop .places) (c .before .before .before .before .before .loop .inv) (omega (arith, c .before .before .before .before .loop-test .left, c .before .before .before .before .before .before .before .wide .ensures)) _ _ (c .before .before .before .count-loop .ensures) (c .before .counted .given .1)
+    let args = c .before .before .before .before .before .before .before .before .before .args in
+    let loop = c .before .before .before .before .before .loop in
+    let loop-test = c .before .before .before .before .loop-test in
+    let wide = c .before .before .before .before .before .before .before .wide in
+    let count-loop = c .before .before .before .count-loop in
+    walk-ends (args .payload .now) (args .links) (loop .k) (loop .at) (loop .sets) (loop .places) (loop .inv) (omega (arith, loop-test .left, wide .ensures)) _ _ (count-loop .ensures) (c .before .counted .given .1)
 
 returns-3 : tie.Need-returns-3 Inv-loop μ-loop
 returns-3 c =
-    refused-built _ _ _ _ (c .refused2 .ensures) (walk-cut (c .before .before .before .before .before .before .before .before .before .before .args .payload .now) (c .before .before .before .before .before .before .before .before .before .before .args .links) (c .before .before .before .before .before .before .loop .k) (c .before .before .before .before .before .before .loop .at) (c .before .before .before .before .before .before .loop .sets) (c .before .before .before .before .before .before .loop .places) (c .before .before .before .before .before .before .loop .inv) (omega (arith, c .before .before .before .before .before .loop-test .left, c .before .before .before .before .before .before .before .before .wide .ensures)) _ _ (c .before .before .before .before .count-loop .ensures) (c .before .before .counted2 .given .1))
+    let args = c .before .before .before .before .before .before .before .before .before .before .args in
+    let loop = c .before .before .before .before .before .before .loop in
+    let loop-test = c .before .before .before .before .before .loop-test in
+    let wide = c .before .before .before .before .before .before .before .before .wide in
+    let count-loop = c .before .before .before .before .count-loop in
+    let counted2 = c .before .before .counted2 in
+    refused-built _ _ _ _ (c .refused2 .ensures) (walk-cut (args .payload .now) (args .links) (loop .k) (loop .at) (loop .sets) (loop .places) (loop .inv) (omega (arith, loop-test .left, wide .ensures)) _ _ (count-loop .ensures) (counted2 .given .1))
 
 pub index-payload-spec : {M : Type 1} → statement M
 index-payload-spec =

@@ -17,7 +17,8 @@ same-length c = search needs
 
 returns : tie.Need-returns
 returns c =
-    (c .edited .ensures ∙ ap editedBy (c .before .before .before .append-placed .ensures .0) ∙ appending-edited _ _ _, c .before .before .before .append-placed .ensures .1)
+    let append-placed = c .before .before .before .append-placed in
+    (c .edited .ensures ∙ ap editedBy (append-placed .ensures .0) ∙ appending-edited _ _ _, append-placed .ensures .1)
 
 pub append-spec : {M : Type 1} → statement M
 append-spec = tie.close (tie.spec append-placed-requires edited-requires same-length returns)

@@ -26,18 +26,27 @@ same-length c = search needs
 
 returns : tie.Need-returns
 returns c =
-    let g = walked-read _ _ _ (sym (c .before .before .before .before .before .before .checked-places .ensures) ∙ c .before .before .before .before .walked .given .1) in
+    let checked-places = c .before .before .before .before .before .before .checked-places in
+    let walked = c .before .before .before .before .walked in
+    let args = c .before .before .before .before .before .before .before .before .before .before .args in
+    let most-links = c .before .before .most-links in
+    let g = walked-read _ _ _ (sym (checked-places .ensures) ∙ walked .given .1) in
     let n = ap (λ (p : RctPlaces). p .count) (g .1) in
-    append-full (c .before .before .before .before .before .before .before .before .before .before .args .b .now) (c .before .before .before .before .before .before .before .before .before .before .args .text .now) (c .before .before .before .before .before .before .before .before .before .before .args .link) (g .0) _ (omega (arith, c .before .before .most-links .ensures, n)) (c .most-links2 .ensures)
+    append-full (args .b .now) (args .text .now) (args .link) (g .0) _ (omega (arith, most-links .ensures, n)) (c .most-links2 .ensures)
 
 add-put-between : tie.Need-add-put-between
 add-put-between c = search needs
 
 put-between-requires : tie.Need-put-between-requires
 put-between-requires c κs =
-    let g = walked-read _ _ _ (sym (c .before .before .before .before .before .before .checked-places .ensures) ∙ c .before .before .before .before .walked .given .1) in
-    let b = bytes-known (c .before .before .before .before .before .before .before .before .before .before .args .b .now) (c .before .before .before .before .before .before .before .before .before .slice-known .given) in
-    (append-spot (c .before .before .before .before .before .before .before .before .before .before .args .b .now) (c .before .before .before .before .before .before .before .before .before .before .args .text .now) (c .before .before .before .before .before .before .before .before .before .before .args .link) (g .0) _ (ap (λ (p : RctPlaces). p .«loop_at») (g .1)) b, (sym (ap (λ (p : RctPlaces). p .total) (g .1)), omega (arith, c .before .before .most-links .ensures)))
+    let checked-places = c .before .before .before .before .before .before .checked-places in
+    let walked = c .before .before .before .before .walked in
+    let args = c .before .before .before .before .before .before .before .before .before .before .args in
+    let slice-known = c .before .before .before .before .before .before .before .before .before .slice-known in
+    let most-links = c .before .before .most-links in
+    let g = walked-read _ _ _ (sym (checked-places .ensures) ∙ walked .given .1) in
+    let b = bytes-known (args .b .now) (slice-known .given) in
+    (append-spot (args .b .now) (args .text .now) (args .link) (g .0) _ (ap (λ (p : RctPlaces). p .«loop_at») (g .1)) b, (sym (ap (λ (p : RctPlaces). p .total) (g .1)), omega (arith, most-links .ensures)))
 
 of-requires : tie.Need-of-requires
 of-requires c κs = search needs
@@ -50,17 +59,25 @@ same-length-2 c = search needs
 
 returns-2 : tie.Need-returns-2
 returns-2 c =
-    let g = walked-read _ _ _ (sym (c .before .before .before .before .before .before .before .before .before .before .checked-places .ensures) ∙ c .before .before .before .before .before .before .before .before .walked .given .1) in
+    let checked-places = c .before .before .before .before .before .before .before .before .before .before .checked-places in
+    let walked = c .before .before .before .before .before .before .before .before .walked in
+    let args = c .before .before .before .before .before .before .before .before .before .before .before .before .before .before .args in
+    let slice-known = c .before .before .before .before .before .before .before .before .before .before .before .before .before .slice-known in
+    let most-links = c .before .before .before .before .before .before .most-links in
+    let put-between = c .before .before .before .put-between in
+    let g = walked-read _ _ _ (sym (checked-places .ensures) ∙ walked .given .1) in
     let n = ap (λ (p : RctPlaces). p .count) (g .1) in
-    let b = bytes-known (c .before .before .before .before .before .before .before .before .before .before .before .before .before .before .args .b .now) (c .before .before .before .before .before .before .before .before .before .before .before .before .before .slice-known .given) in
-    append-goes (c .before .before .before .before .before .before .before .before .before .before .before .before .before .before .args .b .now) (c .before .before .before .before .before .before .before .before .before .before .before .before .before .before .args .text .now) (c .before .before .before .before .before .before .before .before .before .before .before .before .before .before .args .link) (g .0) _ (ap (λ (p : RctPlaces). p .«loop_at») (g .1)) b _ _ _ _ _ n (ap (λ (p : RctPlaces). p .total) (g .1)) (omega (arith, c .before .before .before .before .before .before .most-links .ensures)) (c .before .before .before .put-between .ensures) (c .of .ensures)
+    let b = bytes-known (args .b .now) (slice-known .given) in
+    append-goes (args .b .now) (args .text .now) (args .link) (g .0) _ (ap (λ (p : RctPlaces). p .«loop_at») (g .1)) b _ _ _ _ _ n (ap (λ (p : RctPlaces). p .total) (g .1)) (omega (arith, most-links .ensures)) (put-between .ensures) (c .of .ensures)
 
 same-length-3 : tie.Need-same-length-3
 same-length-3 c = search needs
 
 returns-3 : tie.Need-returns-3
 returns-3 c =
-    append-unread (c .before .before .before .before .before .before .before .args .b .now) (c .before .before .before .before .before .before .before .args .text .now) (c .before .before .before .before .before .before .before .args .link) _ (walked-refused _ _ _ (sym (c .before .before .before .checked-places .ensures) ∙ c .before .walked2 .given .1))
+    let args = c .before .before .before .before .before .before .before .args in
+    let checked-places = c .before .before .before .checked-places in
+    append-unread (args .b .now) (args .text .now) (args .link) _ (walked-refused _ _ _ (sym (checked-places .ensures) ∙ c .before .walked2 .given .1))
 
 pub append-placed-spec : {M : Type 1} → statement M
 append-placed-spec =

@@ -17,7 +17,8 @@ same-length c = search needs
 
 returns : tie.Need-returns
 returns c =
-    (c .edited .ensures ∙ ap editedBy (c .before .before .before .replace-placed .ensures .0) ∙ replacing-edited _ _ _ _, c .before .before .before .replace-placed .ensures .1)
+    let replace-placed = c .before .before .before .replace-placed in
+    (c .edited .ensures ∙ ap editedBy (replace-placed .ensures .0) ∙ replacing-edited _ _ _ _, replace-placed .ensures .1)
 
 pub replace-spec : {M : Type 1} → statement M
 replace-spec = tie.close (tie.spec replace-placed-requires edited-requires same-length returns)

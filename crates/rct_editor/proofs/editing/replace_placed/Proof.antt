@@ -24,20 +24,29 @@ same-length c = search needs
 
 returns : tie.Need-returns
 returns c =
-    let g = walked-read _ _ _ (sym (c .before .before .before .before .before .checked-places .ensures) ∙ c .before .before .before .walked .given .1) in
+    let checked-places = c .before .before .before .before .before .checked-places in
+    let walked = c .before .before .before .walked in
+    let args = c .before .before .before .before .before .before .before .before .before .args in
+    let g = walked-read _ _ _ (sym (checked-places .ensures) ∙ walked .given .1) in
     let n = ap (λ (p : RctPlaces). p .count) (g .1) in
-    replace-none (c .before .before .before .before .before .before .before .before .before .args .b .now) (c .before .before .before .before .before .before .before .before .before .args .number) (c .before .before .before .before .before .before .before .before .before .args .text .now) (c .before .before .before .before .before .before .before .before .before .args .link) (g .0) _ _ n (c .before .if1 .taken) (c .no-such .ensures)
+    replace-none (args .b .now) (args .number) (args .text .now) (args .link) (g .0) _ _ n (c .before .if1 .taken) (c .no-such .ensures)
 
 enum-known-span : tie.Need-enum-known-span
 enum-known-span c = search needs
 
 put-between-requires : tie.Need-put-between-requires
 put-between-requires c κs =
-    let g = walked-read _ _ _ (sym (c .before .before .before .before .before .before .before .before .checked-places .ensures) ∙ c .before .before .before .before .before .before .walked .given .1) in
+    let checked-places = c .before .before .before .before .before .before .before .before .checked-places in
+    let walked = c .before .before .before .before .before .before .walked in
+    let args = c .before .before .before .before .before .before .before .before .before .before .before .before .args in
+    let slice-known = c .before .before .before .before .before .before .before .before .before .before .before .slice-known in
+    let if1 = c .before .before .before .before .if1 in
+    let span = c .before .before .span in
+    let g = walked-read _ _ _ (sym (checked-places .ensures) ∙ walked .given .1) in
     let n = ap (λ (p : RctPlaces). p .count) (g .1) in
-    let b = bytes-known (c .before .before .before .before .before .before .before .before .before .before .before .before .args .b .now) (c .before .before .before .before .before .before .before .before .before .before .before .slice-known .given) in
-    let f = span-known (c .before .before .before .before .before .before .before .before .before .before .before .before .args .b .now) (c .before .before .before .before .before .before .before .before .before .before .before .before .args .number) _ _ (omega (arith, c .before .before .before .before .if1 .left, n)) (ap (λ (p : RctPlaces). p .link) (g .1) ∙ c .before .before .span .given .1) in
-    (replace-spot (c .before .before .before .before .before .before .before .before .before .before .before .before .args .b .now) (c .before .before .before .before .before .before .before .before .before .before .before .before .args .number) (c .before .before .before .before .before .before .before .before .before .before .before .before .args .text .now) (c .before .before .before .before .before .before .before .before .before .before .before .before .args .link) (g .0) _ _ f b (omega (arith, c .before .before .before .before .if1 .left, n)), (sym (ap (λ (p : RctPlaces). p .total) (g .1)), omega (arith, n, bytes-at (c .before .before .before .before .before .before .before .before .before .before .before .before .args .b .now) linkCountPlace b)))
+    let b = bytes-known (args .b .now) (slice-known .given) in
+    let f = span-known (args .b .now) (args .number) _ _ (omega (arith, if1 .left, n)) (ap (λ (p : RctPlaces). p .link) (g .1) ∙ span .given .1) in
+    (replace-spot (args .b .now) (args .number) (args .text .now) (args .link) (g .0) _ _ f b (omega (arith, if1 .left, n)), (sym (ap (λ (p : RctPlaces). p .total) (g .1)), omega (arith, n, bytes-at (args .b .now) linkCountPlace b)))
 
 of-requires : tie.Need-of-requires
 of-requires c κs = search needs
@@ -56,27 +65,40 @@ same-length-2 c = search needs
 
 returns-2 : tie.Need-returns-2
 returns-2 c =
-    let g = walked-read _ _ _ (sym (c .before .before .before .before .before .before .before .before .before .before .before .before .checked-places .ensures) ∙ c .before .before .before .before .before .before .before .before .before .before .walked .given .1) in
+    let checked-places = c .before .before .before .before .before .before .before .before .before .before .before .before .checked-places in
+    let walked = c .before .before .before .before .before .before .before .before .before .before .walked in
+    let args = c .before .before .before .before .before .before .before .before .before .before .before .before .before .before .before .before .args in
+    let slice-known = c .before .before .before .before .before .before .before .before .before .before .before .before .before .before .before .slice-known in
+    let if1 = c .before .before .before .before .before .before .before .before .if1 in
+    let span = c .before .before .before .before .before .before .span in
+    let put-between = c .before .before .before .put-between in
+    let g = walked-read _ _ _ (sym (checked-places .ensures) ∙ walked .given .1) in
     let n = ap (λ (p : RctPlaces). p .count) (g .1) in
-    let b = bytes-known (c .before .before .before .before .before .before .before .before .before .before .before .before .before .before .before .before .args .b .now) (c .before .before .before .before .before .before .before .before .before .before .before .before .before .before .before .slice-known .given) in
-    let f = span-known (c .before .before .before .before .before .before .before .before .before .before .before .before .before .before .before .before .args .b .now) (c .before .before .before .before .before .before .before .before .before .before .before .before .before .before .before .before .args .number) _ _ (omega (arith, c .before .before .before .before .before .before .before .before .if1 .left, n)) (ap (λ (p : RctPlaces). p .link) (g .1) ∙ c .before .before .before .before .before .before .span .given .1) in
-    replace-goes (c .before .before .before .before .before .before .before .before .before .before .before .before .before .before .before .before .args .b .now) (c .before .before .before .before .before .before .before .before .before .before .before .before .before .before .before .before .args .number) (c .before .before .before .before .before .before .before .before .before .before .before .before .before .before .before .before .args .text .now) (c .before .before .before .before .before .before .before .before .before .before .before .before .before .before .before .before .args .link) (g .0) _ _ f b (omega (arith, c .before .before .before .before .before .before .before .before .if1 .left, n)) _ _ _ _ _ n (ap (λ (p : RctPlaces). p .total) (g .1)) (c .before .before .before .put-between .ensures) (c .of .ensures)
+    let b = bytes-known (args .b .now) (slice-known .given) in
+    let f = span-known (args .b .now) (args .number) _ _ (omega (arith, if1 .left, n)) (ap (λ (p : RctPlaces). p .link) (g .1) ∙ span .given .1) in
+    replace-goes (args .b .now) (args .number) (args .text .now) (args .link) (g .0) _ _ f b (omega (arith, if1 .left, n)) _ _ _ _ _ n (ap (λ (p : RctPlaces). p .total) (g .1)) (put-between .ensures) (c .of .ensures)
 
 same-length-3 : tie.Need-same-length-3
 same-length-3 c = search needs
 
 returns-3 : tie.Need-returns-3
 returns-3 c =
-    let g = walked-read _ _ _ (sym (c .before .before .before .before .before .before .before .checked-places .ensures) ∙ c .before .before .before .before .before .walked .given .1) in
+    let checked-places = c .before .before .before .before .before .before .before .checked-places in
+    let walked = c .before .before .before .before .before .walked in
+    let args = c .before .before .before .before .before .before .before .before .before .before .before .args in
+    let if1 = c .before .before .before .if1 in
+    let g = walked-read _ _ _ (sym (checked-places .ensures) ∙ walked .given .1) in
     let n = ap (λ (p : RctPlaces). p .count) (g .1) in
-    absurd (span-absent (c .before .before .before .before .before .before .before .before .before .before .before .args .b .now) (c .before .before .before .before .before .before .before .before .before .before .before .args .number) (ap (λ (p : RctPlaces). p .link) (g .1) ∙ c .before .enum-told .given .1) (omega (arith, c .before .before .before .if1 .left, n)))
+    absurd (span-absent (args .b .now) (args .number) (ap (λ (p : RctPlaces). p .link) (g .1) ∙ c .before .enum-told .given .1) (omega (arith, if1 .left, n)))
 
 same-length-4 : tie.Need-same-length-4
 same-length-4 c = search needs
 
 returns-4 : tie.Need-returns-4
 returns-4 c =
-    replace-unread (c .before .before .before .before .before .before .before .args .b .now) (c .before .before .before .before .before .before .before .args .number) (c .before .before .before .before .before .before .before .args .text .now) (c .before .before .before .before .before .before .before .args .link) _ (walked-refused _ _ _ (sym (c .before .before .before .checked-places .ensures) ∙ c .before .walked2 .given .1))
+    let args = c .before .before .before .before .before .before .before .args in
+    let checked-places = c .before .before .before .checked-places in
+    replace-unread (args .b .now) (args .number) (args .text .now) (args .link) _ (walked-refused _ _ _ (sym (checked-places .ensures) ∙ c .before .walked2 .given .1))
 
 pub replace-placed-spec : {M : Type 1} → statement M
 replace-placed-spec =

@@ -5,7 +5,7 @@ ghost use Prim.Native.Nat.{_+_, _*_, _≤_};
 ghost use Rattle.field.specs.Fields.{numberItems, checkField};
 ghost use Rattle.link.specs.Syntax.{itemHead};
 ghost use Rattle.locator.specs.Writing.{longestWritten};
-ghost use Rattle.link_draft.specs.Checks.{uriHere, locatorHere, checkPresence, checkHead, linkChecked};
+ghost use Rattle.link_draft.specs.Checks.{checkPresence, checkHead, linkChecked};
 ghost use Rattle.link_checker.specs.Stages.{noRanges, joined, rangeChecked, uriChecked, mostRange, locatorChecked, fieldsChecked, allChecked};
 use field::Field;
 use link::LinkFields;
@@ -17,6 +17,8 @@ use link::Range;
 use link_draft::LinkChecked;
 use link_draft::check_range;
 use link_draft::held;
+use link_draft::locator_here;
+use link_draft::uri_here;
 use wire::lengths::LengthField;
 use wire::verdict::Refusal;
 use wire::verdict::Verdict;
@@ -106,24 +108,6 @@ fn check_presence(fields: LinkFields) -> Verdict
         return against;
     }
     Verdict::Fine
-}
-
-fn uri_here(uri: MediaUri) -> bool
-    ensures { λ r. ⌜ r ≡ uriHere uri ⌝ }
-{
-    match uri {
-        MediaUri::Absent => false,
-        MediaUri::Present(_) => true,
-    }
-}
-
-fn locator_here(locator: LinkLocator) -> bool
-    ensures { λ r. ⌜ r ≡ locatorHere locator ⌝ }
-{
-    match locator {
-        LinkLocator::Absent => false,
-        LinkLocator::Present(_) => true,
-    }
 }
 
 // 22 of the lowest rank that is too wide, with what was found of the ranks that are looked at elsewhere.

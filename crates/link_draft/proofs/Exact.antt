@@ -29,7 +29,7 @@ use Rattle.link_draft.proofs.Rows.{range-passed, range-pass, each-passe
 
 -- ---- the URI
 
-uri-here : (t : List ℕ) (u : MediaUri) → here (uriOf t u) ≡ uriHere u
+pub uri-here : (t : List ℕ) (u : MediaUri) → here (uriOf t u) ≡ uriHere u
 uri-here t uri.Absent = refl
 uri-here t (uri.Present r) = refl
 
@@ -55,7 +55,7 @@ fits-uri t (uri.Present r) w f = field-pass uriLength (r .length) (rw (range-len
 
 -- ---- the locator
 
-locator-here : (m : LinkLocator) → here (locatorOf m) ≡ locatorHere m
+pub locator-here : (m : LinkLocator) → here (locatorOf m) ≡ locatorHere m
 locator-here locator.Absent = refl
 locator-here (locator.Present l) = refl
 

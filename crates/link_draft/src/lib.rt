@@ -2,8 +2,10 @@
 ghost use mathlib.Core.Path.{_≡_};
 ghost use Prim.Native.Nat.{min, _≤_};
 ghost use Rattle.field.specs.Fields.{numberItems};
-ghost use Rattle.link_draft.specs.Checks.{checkRange};
+ghost use Rattle.link_draft.specs.Checks.{uriHere, locatorHere, checkRange};
 use field::Field;
+use link::LinkLocator;
+use link::MediaUri;
 use link::Range;
 use wire::verdict::Refusal;
 use wire::verdict::Verdict;
@@ -23,6 +25,25 @@ pub fn held(count: usize) -> usize
         Field::NUMBER_ITEMS.widest
     } else {
         count
+    }
+}
+
+// Whether a record has a URI, and whether it has a locator, whatever its type is.
+pub fn uri_here(uri: MediaUri) -> bool
+    ensures { λ r. ⌜ r ≡ uriHere uri ⌝ }
+{
+    match uri {
+        MediaUri::Absent => false,
+        MediaUri::Present(_) => true,
+    }
+}
+
+pub fn locator_here(locator: LinkLocator) -> bool
+    ensures { λ r. ⌜ r ≡ locatorHere locator ⌝ }
+{
+    match locator {
+        LinkLocator::Absent => false,
+        LinkLocator::Present(_) => true,
     }
 }
 

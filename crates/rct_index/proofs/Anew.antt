@@ -45,13 +45,13 @@ pub record Anew (i j : RctIndex) (k n q old new : ℕ) (m : LinkMarks) : Type 0 
   pub as-many : length (j .places) ≡ length (i .places)
   pub named : k < length (i .places) → getD (j .places) k 0 ≡ q
   pub earlier : (l : ℕ) → l < length (i .places) → l < k → getD (j .places) l 0 ≡ getD (i .places) l 0
-  pub later : (l : ℕ) → l < length (i .places) → k < l → l < n → (getD (j .places) l 0 + old) % turns ≡ (getD (i .places) l 0 + new) % turns
-  pub turned : (l : ℕ) → l < length (i .places) → k < l → l < n → getD (j .places) l 0 < turns
+  pub later : (l : ℕ) → l < length (i .places) → k < l → l < n → (getD (j .places) l 0 + old) % 65536 ≡ (getD (i .places) l 0 + new) % 65536
+  pub turned : (l : ℕ) → l < length (i .places) → k < l → l < n → getD (j .places) l 0 < 65536
   pub past : (l : ℕ) → l < length (i .places) → k < l → n ≤ l → getD (j .places) l 0 ≡ getD (i .places) l 0
   pub descriptors : j .descriptors ≡ i .descriptors
 
 -- a place that moves: so many bytes more, or fewer, modulo 65,536
-moved-turns : (old new p : ℕ) → old ≤ turns → ((movedPlace old new p + old) % turns ≡ (p + new) % turns) × (movedPlace old new p < turns)
+moved-turns : (old new p : ℕ) → old ≤ turns → ((movedPlace old new p + old) % 65536 ≡ (p + new) % 65536) × (movedPlace old new p < 65536)
 moved-turns old new p h = (omega arith, omega arith)
 
 pub anew : (i : RctIndex) (k n q old new : ℕ) (m : LinkMarks) → SetsFit (i .sets) → k < size → old ≤ turns → Anew i (toldAnew i k n q old new m) k n q old new m
@@ -64,7 +64,7 @@ anew i k n q old new m f h small =
       as-many = length-numbered (newPlace k n q old new) 0 (i .places);
       named = λ l. at k l ∙ place-named k n q old new k _ refl;
       earlier = λ l b g. at l b ∙ place-before k n q old new l _ g;
-      later = λ l b g o. ap (λ p. (p + old) % turns) (at l b ∙ place-later k n q old new l _ g o) ∙ moved-turns old new (getD (i .places) l 0) small .0;
+      later = λ l b g o. ap (λ p. (p + old) % 65536) (at l b ∙ place-later k n q old new l _ g o) ∙ moved-turns old new (getD (i .places) l 0) small .0;
       turned = λ l b g o. omega (arith, at l b ∙ place-later k n q old new l _ g o, moved-turns old new (getD (i .places) l 0) small .1);
       past = λ l b g o. at l b ∙ place-above k n q old new l _ g o;
       descriptors = refl;

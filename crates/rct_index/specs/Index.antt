@@ -1,20 +1,16 @@
 -- An index beside a related content section (request 103), said by the records: which links have a URI, a locator and the default icon flag, where the syntax puts each link's entry, and how many descriptors the loop has.
 -- Assumes nothing.
 use Prim.Native.Nat.{ℕ, _+_, _-_}
-use mathlib.Core.Bool.{Bool, true, false}
+use mathlib.Core.Bool.{Bool}
 use mathlib.Core.List.{List, [], _∷_, _++_, map}
-use mathlib.Core.Option.{Option, none, some}
 use lib.ListN.{length, set, replicate}
 use Rattle.wire.specs.Lengths.{blockBytes}
 use Rattle.number_set.specs.Members.{members, ofMembers}
 use Rattle.number_set.specs.declared.NumberSet.{NumberSet}
 use Rattle.descriptors.specs.Reading.{descriptorsOf}
-use Rattle.link.specs.Syntax.{Link, entryOf}
+use Rattle.link.specs.Syntax.{Link, here, entryOf}
 use Rattle.link.specs.declared.LinkFields.{LinkFields}
-use Rattle.link.specs.declared.LinkLocator.{LinkLocator}
-use Rattle.link.specs.declared.LinkLocator.the-variants as locator
-use Rattle.link.specs.declared.MediaUri.{MediaUri}
-use Rattle.link.specs.declared.MediaUri.the-variants as uri
+use Rattle.link_draft.specs.Checks.{uriHere, locatorHere}
 use Rattle.rct.specs.Syntax.{headLength, Section}
 use Rattle.rct_edit.specs.Edit.{mostLinks}
 use Rattle.rct_index.specs.declared.LinkMarks.{LinkMarks}
@@ -23,24 +19,12 @@ use Rattle.rct_index.specs.declared.RctIndex.{RctIndex}
 
 -- ---- what is told of a link
 
-abbrev pub isThere : {A : Type 0} → Option A → Bool
-isThere none = false
-isThere (some a) = true
-
 unfoldable pub linkMarks : Link → LinkMarks
-linkMarks l = record { uri = isThere (l .uri); locator = isThere (l .locator); icon = l .defaultIcon }
+linkMarks l = record { uri = here (l .uri); locator = here (l .locator); icon = l .defaultIcon }
 
 -- and of a record, as the code carries it
-abbrev pub uriHeld : MediaUri → Bool
-uriHeld uri.Absent = false
-uriHeld (uri.Present r) = true
-
-abbrev pub locatorHeld : LinkLocator → Bool
-locatorHeld locator.Absent = false
-locatorHeld (locator.Present l) = true
-
 unfoldable pub marksIn : LinkFields → LinkMarks
-marksIn f = record { uri = uriHeld (f .«media_uri»); locator = locatorHeld (f .«dvb_binary_locator»); icon = f .«default_icon_flag» }
+marksIn f = record { uri = uriHere (f .«media_uri»); locator = locatorHere (f .«dvb_binary_locator»); icon = f .«default_icon_flag» }
 
 -- ---- the sets: link k is in a set if it has the property
 

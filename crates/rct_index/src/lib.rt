@@ -3,12 +3,10 @@
 ghost use mathlib.Core.Path.{_≡_};
 ghost use mathlib.Core.List.{[]};
 ghost use lib.ListN.{getD};
-ghost use Rattle.rct_index.specs.Index.{uriHeld, locatorHeld, marksIn, setsOf, withMarks, noIndex};
+ghost use Rattle.rct_index.specs.Index.{marksIn, setsOf, withMarks, noIndex};
 ghost use Rattle.rct_index.specs.Building.{built};
 ghost use Rattle.wire.specs.declared.verdict.Verdict.the-variants.{Refused};
 use link::LinkFields;
-use link::LinkLocator;
-use link::MediaUri;
 use number_set::NumberSet;
 use rct_edit::Edited;
 use rct_edit::MOST_LINKS;
@@ -22,24 +20,6 @@ pub struct LinkMarks {
     pub icon: bool,
 }
 
-fn has_uri(uri: MediaUri) -> bool
-    ensures { λ r. ⌜ r ≡ uriHeld uri ⌝ }
-{
-    match uri {
-        MediaUri::Present(_) => true,
-        MediaUri::Absent => false,
-    }
-}
-
-fn has_locator(locator: LinkLocator) -> bool
-    ensures { λ r. ⌜ r ≡ locatorHeld locator ⌝ }
-{
-    match locator {
-        LinkLocator::Present(_) => true,
-        LinkLocator::Absent => false,
-    }
-}
-
 impl LinkMarks {
     // Of a link's record: what it holds, whatever its type is.
     pub fn of(fields: LinkFields) -> LinkMarks
@@ -48,8 +28,8 @@ impl LinkMarks {
         let uri = fields.media_uri;
         let locator = fields.dvb_binary_locator;
         LinkMarks {
-            uri: has_uri(uri),
-            locator: has_locator(locator),
+            uri: link_draft::uri_here(uri),
+            locator: link_draft::locator_here(locator),
             icon: fields.default_icon_flag,
         }
     }

@@ -4,15 +4,15 @@ use borrow.Author.Needs.{needs}
 use Rattle.rct_index.proofs.LinkMarks.of.Statement.{statement}
 use Rattle.rct_index.proofs.LinkMarks.of.Tie as tie
 
-has-uri-requires : tie.Need-has-uri-requires
-has-uri-requires c κs = search needs
+uri-here-requires : tie.Need-uri-here-requires
+uri-here-requires c κs = search needs
 
-has-locator-requires : tie.Need-has-locator-requires
-has-locator-requires c κs = search needs
+locator-here-requires : tie.Need-locator-here-requires
+locator-here-requires c κs = search needs
 
 returns : tie.Need-returns
 unfolding marksIn
-returns c = rw (c .before .has-uri .ensures, c .has-locator .ensures)
+returns c = rw (c .before .uri-here .ensures, c .locator-here .ensures)
 
 pub of-spec : {M : Type 1} → statement M
-of-spec = tie.close (tie.spec has-uri-requires has-locator-requires returns)
+of-spec = tie.close (tie.spec uri-here-requires locator-here-requires returns)

@@ -49,7 +49,7 @@ fn read_places(line: &[u8], s: Scan, first: u16) -> PlacesScan {
 fn put_places(places: &[u16]) {
     let mut i: usize = 1;
     while i < places.len() {
-        put_short(NEXT, [places[i], 0, 0, 0]);
+        put_short(NEXT, [RctIndex::place(places, i), 0, 0, 0]);
         i += 1;
     }
 }

@@ -12,7 +12,7 @@ use lib.ListN.{length, getD, drop, set, replicate, length-append, length-map, le
 use lib.Seq.{drop-nil, take-at, drop-at, set-append-left, getD-append-add}
 use Rattle.wire.specs.Choice.{pick}
 use Rattle.number_set.specs.declared.NumberSet.{NumberSet}
-use Rattle.number_set.specs.Members.{width, many, size, bits, flags, wordsOf, members, ofMembers, padded, noMembers, Words, Fits}
+use Rattle.number_set.specs.Members.{width, many, size, bits, flags, wordsOf, members, isMember, ofMembers, padded, noMembers, Words, Fits}
 use Rattle.number_set.specs.Stages.{turn}
 use Rattle.number_set.proofs.Bits.{length-bits, word-bits, bits-at, bits-padded, word-take-lt}
 
@@ -92,14 +92,14 @@ unfolding members
 length-members s f = let e = length-flags (s .words) in let g = f .four in omega arith
 
 -- **number k is bit k % 64 of word k / 64**
-pub members-at : (s : NumberSet) (k : ℕ) → getD (members s) k false ≡ eqb (getD (s .words) (k / width) 0 / 2 ^ (k % width) % 2) 1
+pub members-at : (s : NumberSet) (k : ℕ) → isMember s k ≡ eqb (getD (s .words) (k / width) 0 / 2 ^ (k % width) % 2) 1
 unfolding members
 members-at s k =
     let e : k / 64 * 64 + k % 64 ≡ k = div-add-mod' k 64 in
     ap (λ (i : ℕ). getD (flags (s .words)) i false) (sym e) ∙ flags-at (s .words) (k / width) (k % width) (omega arith)
 
 -- **and past the last number none is a member**
-pub members-past : (s : NumberSet) (k : ℕ) → Fits s → size ≤ k → getD (members s) k false ≡ false
+pub members-past : (s : NumberSet) (k : ℕ) → Fits s → size ≤ k → isMember s k ≡ false
 members-past s k f h = List·getD-eq-default (members s) false (omega (arith, length-members s f))
 
 made : {ws us : List ℕ} → ws ≡ us → _≡_ {A = NumberSet} (record { words = ws }) (record { words = us })

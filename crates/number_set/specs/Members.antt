@@ -43,6 +43,10 @@ wordsOf (suc n) l = word (take width l) ∷ wordsOf n (drop width l)
 unfoldable pub members : NumberSet → List Bool
 members s = flags (s .words)
 
+-- whether k is one: none past the last is
+abbrev pub isMember : NumberSet → ℕ → Bool
+isMember s k = getD (members s) k false
+
 -- the set whose members a list tells; what the list lacks is no member
 unfoldable pub ofMembers : List Bool → NumberSet
 ofMembers l = record { words = wordsOf many l }

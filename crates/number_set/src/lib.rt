@@ -4,9 +4,9 @@ ghost use mathlib.Core.Bool.{true, false};
 ghost use Prim.Native.Nat.{_/_, _%_, _≤_};
 ghost use lib.Count.{ones};
 ghost use lib.Dec.{eqb};
-ghost use lib.ListN.{getD, set};
+ghost use lib.ListN.{set};
 ghost use Rattle.wire.specs.Choice.{pick};
-ghost use Rattle.number_set.specs.Members.{width, members, ofMembers, noMembers, trues};
+ghost use Rattle.number_set.specs.Members.{width, members, isMember, ofMembers, noMembers, trues};
 ghost use Rattle.number_set.specs.Stages.{turn};
 
 // The bits of a word.
@@ -59,7 +59,7 @@ impl NumberSet {
 
     // Whether k is a member. Of a number past the last no word is read.
     pub fn has(self, k: usize) -> bool
-        ensures { λ r. ⌜ r ≡ getD (members self) k false ⌝ }
+        ensures { λ r. ⌜ r ≡ isMember self k ⌝ }
     {
         if k >= SIZE {
             return false;

@@ -7,7 +7,7 @@ use mathlib.Core.Bool.{Bool, false}
 use native.Mathlib.Omega.{arith}
 use lib.ListN.{length, getD, set}
 use lib.Seq.{getD-set-same, getD-set-other}
-use Rattle.number_set.specs.Members.{size, members, Fits}
+use Rattle.number_set.specs.Members.{size, members, Fits, isMember}
 use Rattle.number_set.specs.declared.NumberSet.{NumberSet}
 use Rattle.number_set.proofs.Sets.{length-members, members-with}
 use Rattle.rct_index.specs.Index.{told, withMarks}
@@ -21,8 +21,8 @@ use Rattle.rct_index.proofs.Places.{numbered-at, length-numbered}
 -- ---- one set: link k is told, and every other is as it was
 
 pub record ToldIn (s t : NumberSet) (k : ℕ) (b : Bool) : Type 0 where
-  pub named : getD (members t) k false ≡ b
-  pub others : (j : ℕ) → j ≢ k → getD (members t) j false ≡ getD (members s) j false
+  pub named : isMember t k ≡ b
+  pub others : (j : ℕ) → j ≢ k → isMember t j ≡ isMember s j
 
 told-in : (s : NumberSet) (k : ℕ) (b : Bool) → Fits s → k < size → ToldIn s (told s k b) k b
 told-in s k b f h =

@@ -5,7 +5,7 @@ use mathlib.Core.Path.{_≡_, refl, sym, ap, _∙_}
 use mathlib.Core.Logic.{_↔_}
 use mathlib.Core.List.{List, [], _∷_, _++_}
 use native.Mathlib.Omega.{arith}
-use lib.ListN.{length, getD}
+use lib.ListN.{length}
 use Rattle.wire.specs.Lists.{Bytes, part}
 use Rattle.wire.specs.Lengths.{lengthAt}
 use Rattle.wire.proofs.Lists.{length-part}
@@ -37,7 +37,7 @@ use Rattle.rct.proofs.Listed.{plainReading, plain-listed}
 use Rattle.rct_edit.specs.Edit.{mostLinks, withLink, withNext, written, countRow, replaceVerdict, appendVerdict, Outcome, replaced, appended}
 use Rattle.rct_edit.specs.Calls.{appending, replacing}
 use Rattle.rct_edit.proofs.Calls.{Stepped, edit-passed, replaced-verdict, appended-verdict, replace-checked, append-checked, replace-can, append-can, replaced-stepped, appended-stepped}
-use Rattle.rct_index.specs.Index.{linkMarks, indexOf}
+use Rattle.rct_index.specs.Index.{linkMarks, indexOf, placeIn}
 use Rattle.rct_index.specs.Building.{descriptorPlace, loopRows, buildVerdict, built, building}
 use Rattle.rct_index.specs.Editing.{turns, broughtUp, appendingIndexed, replacingIndexed}
 use Rattle.rct_index.specs.declared.IndexBuilt.{IndexBuilt}
@@ -84,8 +84,8 @@ pub record Tells (xs : List ℕ) (i : RctIndex) : Type 0 where
   pub uri : Told byUri (i .sets) (sectionAt xs .links)
   pub locator : Told byLocator (i .sets) (sectionAt xs .links)
   pub icon : Told byIcon (i .sets) (sectionAt xs .links)
-  pub places : (k : ℕ) → k < length (sectionAt xs .links) → getD (i .places) k 0 ≡ entryPlace (sectionAt xs) k
-  pub past : (k : ℕ) → length (sectionAt xs .links) ≤ k → getD (i .places) k 0 ≡ 0
+  pub places : (k : ℕ) → k < length (sectionAt xs .links) → placeIn (i .places) k ≡ entryPlace (sectionAt xs) k
+  pub past : (k : ℕ) → length (sectionAt xs .links) ≤ k → placeIn (i .places) k ≡ 0
   pub descriptors : i .descriptors ≡ length (descriptorsOf (sectionAt xs .loop .body))
   pub loop : loopBytes (descriptorsOf (sectionAt xs .loop .body)) ≡ sectionAt xs .loop .body
 

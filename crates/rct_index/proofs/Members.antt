@@ -6,7 +6,7 @@ use mathlib.Core.Bool.{Bool, false}
 use mathlib.Core.List.{List, [], _∷_, _++_}
 use native.Mathlib.Omega.{arith}
 use lib.ListN.{length, getD, set, length-map}
-use Rattle.number_set.specs.Members.{size, members, ofMembers, trues}
+use Rattle.number_set.specs.Members.{size, members, ofMembers, trues, isMember}
 use Rattle.number_set.specs.declared.NumberSet.{NumberSet}
 use Rattle.number_set.proofs.Sets.{of-at, of-map-set, of-map-more}
 use Rattle.number_set.proofs.Counts.{count-of}
@@ -33,7 +33,7 @@ byIcon = record { of = λ (m : LinkMarks). m .icon; from = λ (s : LinkSets). s 
 
 -- what sets tell of a property: by number whether the link has it, none past the last link, and in all how many links have it
 pub record Told (p : Property) (s : LinkSets) (ls : List Link) : Type 0 where
-  pub in-set : (k : ℕ) → getD (members (p .from s)) k false ≡ getD (having (p .of) ls) k false
+  pub in-set : (k : ℕ) → isMember (p .from s) k ≡ getD (having (p .of) ls) k false
   pub count : trues (members (p .from s)) ≡ trues (having (p .of) ls)
 
 module _ (has : LinkMarks → Bool) (ls : List Link) (n : length ls ≤ size) where

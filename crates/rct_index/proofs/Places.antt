@@ -6,12 +6,12 @@ use mathlib.Core.Logic.{_≢_}
 use mathlib.Core.List.{List, [], _∷_, _++_}
 use native.Mathlib.Nat.{not-suc-le-zero, le-of-suc-le-suc}
 use native.Mathlib.Omega.{arith}
-use lib.ListN.{length, getD, take, set, replicate, length-append, length-replicate}
+use lib.ListN.{length, getD, take, set, replicate, length-append, length-replicate, List·getD-eq-default}
 use Rattle.wire.specs.Lengths.{blockBytes}
 use Rattle.link.specs.Syntax.{Link, entryOf}
 use Rattle.rct.specs.Syntax.{headLength, Section, linksBytes, entryPlace}
 use Rattle.rct_edit.specs.Edit.{mostLinks}
-use Rattle.rct_index.specs.Index.{entryPlaces, filledPlaces, indexOf}
+use Rattle.rct_index.specs.Index.{entryPlaces, filledPlaces, placeIn, indexOf}
 use Rattle.rct_index.specs.Editing.{byNumber}
 
 -- ---- filled up with zeros
@@ -42,6 +42,10 @@ filled-more ps q h =
     let one : mostLinks - length ps ≡ suc (mostLinks - length (ps ++ q ∷ [])) = omega (arith, length-append ps (q ∷ [])) in
     ap (λ n. set (ps ++ replicate n 0) (length ps) q) one ∙ set-behind ps (mostLinks - length (ps ++ q ∷ [])) q
 
+-- past the last there is none, of any places
+pub place-none : (ps : List ℕ) (k : ℕ) → length ps ≤ k → placeIn ps k ≡ 0
+place-none ps k h = List·getD-eq-default ps 0 h
+
 -- ---- the entries' places
 
 pub length-places : (p : ℕ) (ls : List Link) → length (entryPlaces p ls) ≡ length ls
@@ -68,11 +72,11 @@ places-more p (m ∷ ls) l =
 -- ---- in the index of a section
 
 module _ (s : Section) where
-  pub index-place : (k : ℕ) → k < length (s .links) → getD (indexOf s .places) k 0 ≡ entryPlace s k
+  pub index-place : (k : ℕ) → k < length (s .links) → placeIn (indexOf s .places) k ≡ entryPlace s k
   unfolding indexOf
   index-place k h = filled-at (entryPlaces headLength (s .links)) k ∙ places-at headLength (s .links) k h
 
-  pub index-past : (k : ℕ) → length (s .links) ≤ k → getD (indexOf s .places) k 0 ≡ 0
+  pub index-past : (k : ℕ) → length (s .links) ≤ k → placeIn (indexOf s .places) k ≡ 0
   unfolding indexOf
   index-past k h = filled-at (entryPlaces headLength (s .links)) k ∙ places-past headLength (s .links) k h
 

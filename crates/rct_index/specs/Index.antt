@@ -3,7 +3,7 @@
 use Prim.Native.Nat.{ℕ, _+_, _-_}
 use mathlib.Core.Bool.{Bool}
 use mathlib.Core.List.{List, [], _∷_, _++_, map}
-use lib.ListN.{length, set, replicate}
+use lib.ListN.{length, getD, set, replicate}
 use Rattle.wire.specs.Lengths.{blockBytes}
 use Rattle.number_set.specs.Members.{members, ofMembers}
 use Rattle.number_set.specs.declared.NumberSet.{NumberSet}
@@ -56,6 +56,10 @@ entryPlaces p (l ∷ ls) = p ∷ entryPlaces (p + length (blockBytes (entryOf l)
 -- as many as a section has links at most, zeros past the last
 abbrev pub filledPlaces : List ℕ → List ℕ
 filledPlaces ps = ps ++ replicate (mostLinks - length ps) 0
+
+-- the place of link k among them
+abbrev pub placeIn : List ℕ → ℕ → ℕ
+placeIn ps k = getD ps k 0
 
 -- ---- the index of a section, and that of nothing
 

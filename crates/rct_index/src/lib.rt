@@ -2,8 +2,7 @@
 // many descriptors the section's loop has.
 ghost use mathlib.Core.Path.{_≡_};
 ghost use mathlib.Core.List.{[]};
-ghost use lib.ListN.{getD};
-ghost use Rattle.rct_index.specs.Index.{marksIn, setsOf, withMarks, noIndex};
+ghost use Rattle.rct_index.specs.Index.{marksIn, setsOf, withMarks, placeIn, noIndex};
 ghost use Rattle.rct_index.specs.Building.{built};
 ghost use Rattle.wire.specs.declared.verdict.Verdict.the-variants.{Refused};
 use link::LinkFields;
@@ -89,7 +88,7 @@ impl RctIndex {
 
     // Of an index's places that of a link, and 0 where there is none for its number. The places are lent: no index is copied.
     pub fn place(places: &[u16], number: usize) -> u16
-        ensures { λ r. ⌜ r ≡ getD (now (places .entry)) number 0 ⌝ }
+        ensures { λ r. ⌜ r ≡ placeIn (now (places .entry)) number ⌝ }
     {
         if places.len() <= number {
             return 0;

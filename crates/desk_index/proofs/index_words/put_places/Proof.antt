@@ -13,4 +13,4 @@ abbrev μ-loop : tie.MeasureT-loop
 
 pub put-places-spec : {M : Type 1} → statement M
 put-places-spec =
-    tie.close (tie.spec Inv-loop μ-loop (search needs) (search needs) (search needs) (search needs) (search needs) (search needs) (search needs) (search needs))
+    tie.close (tie.spec Inv-loop μ-loop (search needs) (search needs) (search needs) (search needs) (search needs) (search needs) (search needs))

@@ -1,40 +1,29 @@
 -- The record that a reading fills stands, with the text that the body is a part of, for the link that was read.
 -- Assumes nothing.
 use mathlib.Core.Path.{_≡_, refl, sym, ap, ap₂, _∙_}
-use Prim.Native.Nat.{ℕ, zero, suc, _+_, _-_, _≤_, _<_}
+use Prim.Native.Nat.{ℕ, zero, suc, _+_, _-_, _≤_}
 use native.Mathlib.Omega.{arith}
 use mathlib.Core.Bool.{Bool, true, false}
-use mathlib.Core.List.{List, [], _∷_, _++_, map}
-use mathlib.Core.Option.{Option, none, some}
-use lib.ListN.{length, take, drop, getD, replicate, length-take, length-drop}
-use lib.Seq.{take-at, take-take, drop-drop, take-all}
+use mathlib.Core.List.{List, _∷_, map}
+use mathlib.Core.Option.{none, some}
+use lib.ListN.{length, take, getD, replicate}
+use lib.Seq.{take-at}
+use Rattle.wire.proofs.Lists.{part-part}
 use Rattle.wire.specs.Choice.{pick}
 use Rattle.wire.specs.Lists.{part}
-use Rattle.wire.specs.Lengths.{blockEnd, lengthAt}
+use Rattle.wire.specs.Lengths.{lengthAt}
 use Rattle.wire.specs.declared.verdict.Verdict.the-variants.{Fine}
 use Rattle.wire.proofs.Verdicts.{then-fine}
-use Rattle.locator.specs.declared.DvbBinaryLocator.{DvbBinaryLocator}
 use Rattle.locator.specs.declared.reading.LocatorRead.{LocatorRead}
 use Rattle.locator.specs.declared.reading.LocatorRead.the-variants as read
-use Rattle.link.specs.Syntax.{Item, Link, uriDue, locatorDue}
-use Rattle.link.specs.Reading.{typeAt, uriEnd, locatorIn, locatorGot, countPlace, itemCount, itemAt, itemEnd, itemPlace, itemVerdict, itemsAt, itemsVerdict, tailPlace, bodyVerdict, linkAt}
-use Rattle.link.specs.Records.{noItem, filled, itemInfo, itemInfos, uriInfo, locatorHeld, locatorInfo, fieldsAt, infoAt, rangeOf, itemOf, uriOf, locatorOf, itemsOf, linkOf}
+use Rattle.link.specs.Syntax.{uriDue, locatorDue}
+use Rattle.link.specs.Reading.{typeAt, uriEnd, locatorIn, locatorGot, countPlace, itemCount, itemAt, itemEnd, itemVerdict, itemsAt, itemsVerdict, tailPlace, bodyVerdict, linkAt}
+use Rattle.link.specs.Records.{noItem, filled, itemInfo, itemInfos, uriInfo, locatorHeld, locatorInfo, fieldsAt, infoAt, itemOf, uriOf, locatorOf, linkOf}
 use Rattle.link.specs.declared.LinkItem.{LinkItem}
-use Rattle.link.specs.declared.LinkLocator.{LinkLocator}
 use Rattle.link.specs.declared.LinkLocator.the-variants as place
 use Rattle.link.proofs.Items.{item-passed}
 use Rattle.link.proofs.Filling.{length-infos}
 use Rattle.link.proofs.Bounds.{body-known, front-known, rest-known}
-
--- a part of a part
-pub part-part : (t : List ℕ) (base n p m : ℕ) → p + m ≤ n → part (part t base n) p m ≡ part t (base + p) m
-part-part t base n p m h = go p n (drop base t) h ∙ ap (take m) (drop-drop p base t)
-  where
-    go : (p n : ℕ) (l : List ℕ) → p + m ≤ n → take m (drop p (take n l)) ≡ take m (drop p l)
-    go zero n l h = take-take m n l (omega arith)
-    go (suc p) zero l h = absurd (omega arith)
-    go (suc p) (suc n) [] h = refl
-    go (suc p) (suc n) (x ∷ l) h = go p n l (omega arith)
 
 module _ (t : List ℕ) (base : ℕ) (xs : List ℕ) (e : part t base (length xs) ≡ xs) where
   there : (p m : ℕ) → p + m ≤ length xs → part t (base + p) m ≡ part xs p m

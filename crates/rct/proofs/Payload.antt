@@ -7,8 +7,8 @@ use native.Mathlib.Omega.{arith}
 use mathlib.Core.Bool.{Bool, true, false}
 use mathlib.Core.List.{List, _∷_}
 use lib.Dec.{ltb}
-use lib.ListN.{length, take, drop, getD}
-use lib.Seq.{getD-take, take-add, drop-at, length-take-le}
+use lib.ListN.{length, take, getD}
+use lib.Seq.{getD-take}
 use borrow.Author.Tests.{ltb-true, ltb-false}
 use Rattle.wire.specs.Lists.{part}
 use Rattle.wire.specs.Lengths.{lengthAt, besideAt, blockEnd, longRow, blockVerdict, lastVerdict}
@@ -17,17 +17,11 @@ use Rattle.wire.specs.Verdict.{_▷_}
 use Rattle.wire.specs.declared.verdict.Verdict.{Verdict}
 use Rattle.wire.specs.declared.verdict.Verdict.the-variants.{Fine, Refused}
 use Rattle.wire.proofs.Blocks.{block-passed, block-cut, block-left}
+use Rattle.wire.proofs.Lists.{part-part}
 use Rattle.wire.proofs.Verdicts.{then-fine, go-on, refused-then}
 use Rattle.link.specs.Reading.{bodyVerdict, linkAt}
-use Rattle.link.proofs.Image.{part-part}
 use Rattle.rct.proofs.Links.{entry-passed}
 use Rattle.rct.specs.Reading.{bodyIn, linkIn, after, linksAt, entryVerdict, linksVerdict, loopVerdict}
-
--- what is behind q up to e
-pub drop-take : (xs : List ℕ) (q e : ℕ) → q ≤ e → e ≤ length xs → drop q (take e xs) ≡ part xs q (e - q)
-drop-take xs q e h l =
-    let sum : e ≡ q + (e - q) = omega arith in
-    ap (λ k. drop q (take k xs)) sum ∙ ap (drop q) (take-add q (e - q) xs) ∙ drop-at (take q xs) (part xs q (e - q)) q (length-take-le q xs (omega arith))
 
 -- ---- one entry
 

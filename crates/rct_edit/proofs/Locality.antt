@@ -6,6 +6,7 @@ use native.Mathlib.Omega.{arith}
 use mathlib.Core.List.{List, [], _∷_, _++_, append-assoc, append-nil}
 use lib.ListN.{length, take, drop, getD, set, length-append, length-take, length-set}
 use lib.Seq.{take-at, drop-at, take-take, set-split, split-at, take-set-lt, drop-set-lt, getD-take}
+use Rattle.wire.proofs.Lists.{drop-take}
 use Rattle.wire.specs.Lists.{Bytes, part}
 use Rattle.wire.specs.Lengths.{longest, lengthBytes, besideOf, besideAt, blockBytes, blockEnd}
 use Rattle.wire.specs.declared.verdict.Verdict.the-variants.{Fine}
@@ -17,7 +18,6 @@ use Rattle.rct.specs.declared.RctHeader.{RctHeader}
 use Rattle.rct.specs.Syntax.{linkCountPlace, tableId, headLength, Section, headBytes, linksBytes, payload, sectionLength, sectionBytes}
 use Rattle.rct.specs.Reading.{countAt, linkIn, linksAt, linkPlace, loopPlace, sectionAt, reading}
 use Rattle.rct.proofs.Links.{entry-length, entry-read, EntryRead, length-linksAt, Found, found, links-append}
-use Rattle.rct.proofs.Payload.{drop-take}
 use Rattle.rct.proofs.Accepted.{length-payload, Accepted, accepted, length-is, rebuild}
 use Rattle.rct_edit.specs.Edit.{withLinks, withLink, withNext}
 use Rattle.rct_edit.specs.Rehead.{rehead}

@@ -138,7 +138,7 @@ pub frame-fine : (xs : List ℕ) → checked xs ≡ Fine → Opened rct checkedD
 frame-fine xs e = reading-opened rct payloadVerdict checkedDemands xs (read-fine xs e)
 
 splice-spot : (xs : List ℕ) (s : Section) (l : Link) (p q : ℕ) → Opened rct checkedDemands xs → Splice xs s l p q → Spot xs p q
-splice-spot xs s l p q o sp = record { large = o .large; within = o .within; limited = omega (arith, o .limited); low = sp .low; ordered = sp .ordered; inside = sp .inside }
+splice-spot xs s l p q o sp = record { large = o .large; within = o .within; low = sp .low; ordered = sp .ordered; inside = sp .inside }
 
 -- ---- appending
 

@@ -5,6 +5,8 @@ use mathlib.Core.Path.{_≡_, sym, ap, _∙_}
 use mathlib.Core.List.{List}
 use native.Mathlib.Omega.{arith}
 use lib.ListN.{length}
+use lib.Seq.{sets}
+use Rattle.wire.specs.Lists.{part}
 use Rattle.wire.specs.declared.verdict.Verdict.the-variants.{Fine, Refused}
 use Rattle.wire.specs.declared.verdict.Refusal.{Refusal}
 use Rattle.wire.proofs.Blocks.{block-length}
@@ -19,7 +21,9 @@ use Rattle.frame.specs.Reading.{declared, totalOf}
 use Rattle.link_draft.specs.Lengths.{linkLength}
 use Rattle.link_draft.proofs.Sizes.{length-is}
 use Rattle.link_draft.proofs.Exact.{passed}
-use Rattle.rct_editor.specs.Splicing.{largest, entryBytes, Spot, lengthBetween, Fitting}
+use Rattle.byte_moves.specs.Moves.{movedWithin}
+use Rattle.byte_moves.proofs.Exact.{moves}
+use Rattle.rct_editor.specs.Splicing.{entryBytes, Spot, lengthBetween, Fitting}
 
 -- as many bytes as the record says, behind the two of its length
 pub body-size : (t : List ℕ) (k : LinkInfo) → checkLink t k ≡ Fine → length (linkBody (linkOf t k)) ≡ linkLength k
@@ -71,10 +75,10 @@ module _ (xs : List ℕ) (p q : ℕ) (t : List ℕ) (k : LinkInfo) (total body l
   whole : len + (q - p) ≡ declared xs + 2 + body
   whole = omega (arith, f .is, gone, four, sp .inside, sp .low)
 
-  pub tail-moves : (e - q ≤ largest) × ((q + (e - q) ≤ length xs) × (p + 2 + body + (e - q) ≤ length xs))
+  pub tail-moves : sets xs (p + 2 + body) (part xs q (e - q)) ≡ movedWithin xs q (p + 2 + body) (e - q)
   tail-moves =
       let a = f .enough in
-      (omega (arith, behind, four, sp .limited), (omega (arith, behind, four, sp .within), sum (e - q) (q - p) behind four gone whole a))
+      moves xs q (p + 2 + body) (e - q) (omega (arith, behind, four, sp .within)) (sum (e - q) (q - p) behind four gone whole a) .1
     where
       sum : (m g : ℕ) → q + m ≡ e → e + 4 ≡ totalOf xs → p + g ≡ q → len + g ≡ declared xs + 2 + body → uncounted + len ≤ length xs → p + 2 + body + m ≤ length xs
       sum m g h i j l n = omega arith

@@ -1,22 +1,18 @@
 -- What the steps of the calls store: each is a run of the syntax's bytes.
 -- Assumes nothing.
-use Prim.Native.Nat.{ℕ, _+_, _-_, _%_, _≤_, _<_}
-use mathlib.Core.Path.{_≡_, refl, sym, ap, _∙_}
-use mathlib.Core.Bool.{Bool, true, false}
+use Prim.Native.Nat.{ℕ, _+_, _-_, _%_, _≤_}
+use mathlib.Core.Path.{_≡_, sym, ap, _∙_}
 use mathlib.Core.List.{List, [], _∷_, _++_}
 use native.Mathlib.Omega.{arith}
-use lib.ListN.{length, take, drop, getD, set, replicate, length-set, length-replicate, replicate-append-replicate}
+use lib.ListN.{length, getD, set, replicate, length-set, length-replicate, replicate-append-replicate}
 use lib.Seq.{sets, length-sets}
-use borrow.Author.Tests.{le-leb}
 use Rattle.frame.specs.Syntax.{crcLength, uncounted}
 use Rattle.frame.specs.Reading.{payloadEnd, totalOf}
-use Rattle.wire.specs.Choice.{pick}
 use Rattle.wire.specs.Lists.{part}
 use Rattle.wire.specs.Lengths.{longest, widestBeside, lengthBytes, besideAt, blockBytes}
-use Rattle.wire.specs.Stores.{roomAt, putAt, Wrote}
+use Rattle.wire.specs.Stores.{putAt, Wrote}
 use Rattle.wire.specs.declared.verdict.Verdict.the-variants.{Fine}
-use Rattle.wire.proofs.Lists.{length-part}
-use Rattle.wire.proofs.Writing.{sets-append, sets-take, then, wrote-length, copied, field-whole, field-put}
+use Rattle.wire.proofs.Writing.{sets-append, then, wrote-length, field-whole, field-put}
 use Rattle.link.specs.Syntax.{linkBody}
 use Rattle.link.specs.Records.{linkOf}
 use Rattle.link.specs.declared.LinkInfo.{LinkInfo}
@@ -53,36 +49,6 @@ fill-more xs ys p i h e =
 pub fill-all : (xs ys : List ℕ) (p i e : ℕ) → e ≤ i → i - p ≤ e - p → ys ≡ sets xs p (replicate (i - p) filler) → ys ≡ filledUp xs p e
 unfolding filledUp
 fill-all xs ys p i e h l s = let n : i - p ≡ e - p = omega arith in s ∙ ap (λ m. sets xs p (replicate m filler)) n
-
--- ---- a run that is put where there is room, or not at all
-
-pub length-putAt : (xs ys vs : List ℕ) (at : ℕ) → ys ≡ putAt xs at vs → length ys ≡ length xs
-length-putAt xs ys vs at e = ap length e ∙ by (roomAt xs at vs)
-  where
-    by : (b : Bool) → length (pick b (sets xs at vs) xs) ≡ length xs
-    by true = length-sets xs at vs
-    by false = refl
-
--- ---- the tail, by way of a copy that starts as zs
-
-pub moved : (xs zs cs ys : List ℕ) (p q n : ℕ) → p + n ≤ length xs → q + n ≤ length xs
-    → cs ≡ putAt zs 0 (take (p + n - p) (drop p xs)) → ys ≡ putAt xs q (take n cs) → n ≤ length zs → ys ≡ sets xs q (part xs p n)
-moved xs zs cs ys p q n hp hq c y hz =
-    copied xs ys (part xs p n) q n (y ∙ ap (putAt xs q) copy) (length-part xs p n hp) hq .bytes
-  where
-    width : p + n - p ≡ n
-    width = omega arith
-
-    size : length (part xs p n) ≡ n
-    size = length-part xs p n hp
-
-    stored : cs ≡ sets zs 0 (part xs p n)
-    stored = copied zs cs (part xs p n) 0 n (c ∙ ap (λ m. putAt zs 0 (take m (drop p xs))) width) size (omega arith) .bytes
-
-    copy : take n cs ≡ part xs p n
-    copy =
-        let e : n ≡ 0 + length (part xs p n) = omega (arith, size) in
-        ap (λ r. take n r) stored ∙ ap (λ m. take m (sets zs 0 (part xs p n))) e ∙ sets-take zs 0 (part xs p n) (omega (arith, size))
 
 -- ---- a link's entry
 

@@ -22,10 +22,6 @@ use Rattle.rct_edit.specs.Edit.{filler, roomRows, Outcome, done}
 use Rattle.rct_edit.specs.Rehead.{rehead}
 use Rattle.frame.specs.Ending.{sealedAt}
 
--- the most bytes of a section
-abbrev pub largest : ℕ
-largest = uncounted + limit
-
 -- ---- the steps
 
 -- filled from p up to e
@@ -40,7 +36,6 @@ entryBytes t k = blockBytes (entryOf (linkOf t k))
 pub record Spot (xs : List ℕ) (p q : ℕ) : Type 0 where
   pub large : least rct ≤ totalOf xs
   pub within : totalOf xs ≤ length xs
-  pub limited : totalOf xs ≤ largest
   pub low : headLength ≤ p
   pub ordered : p ≤ q
   pub inside : q ≤ payloadEnd xs

@@ -3,7 +3,6 @@ ghost use mathlib.Core.Path.{_≡_};
 ghost use Prim.Native.Nat.{_+_, _-_, _≤_, _<_};
 ghost use lib.ListN.{length};
 ghost use lib.Seq.{sets};
-ghost use Rattle.wire.specs.Lists.{part};
 ghost use Rattle.wire.specs.Lengths.{longest};
 ghost use Rattle.wire.specs.declared.verdict.Verdict.the-variants.{Fine};
 ghost use Rattle.link_draft.specs.Checks.{checkLink};
@@ -13,9 +12,8 @@ ghost use Rattle.rct.specs.Syntax.{linkCountPlace};
 ghost use Rattle.rct_edit.specs.Edit.{mostLinks};
 ghost use Rattle.rct_edit.specs.Rehead.{rehead};
 ghost use Rattle.rct_edit.specs.Answers.{answer};
-ghost use Rattle.rct_editor.specs.Splicing.{filledUp, entryBytes, Spot, largest, between};
+ghost use Rattle.rct_editor.specs.Splicing.{filledUp, entryBytes, Spot, between};
 use field::Field;
-use frame::Demands;
 use frame::Table;
 use link::LinkInfo;
 use rct::RctHeader;
@@ -23,9 +21,6 @@ use rct_edit::Edited;
 use rct_edit::room::check_room;
 use wire::lengths::LengthField;
 use wire::verdict::Verdict;
-
-// The most bytes of a section.
-const LARGEST: usize = Table::UNCOUNTED + Demands::LIMIT;
 
 // Puts the link in place of what lies between `from` and `to` of a section of `total` bytes, if its record passes its
 // checks and the section has room.
@@ -54,23 +49,12 @@ pub(crate) fn put_between(
         return Edited::refused(room);
     };
     let behind = from + LengthField::BYTES + body;
-    move_tail(b, to, behind, frame::payload_end(total) - to);
+    byte_moves::move_within(b, to, behind, frame::payload_end(total) - to);
     put_entry(b, from, body, text, link);
     put_numbers(b, section_length, count);
     let new = frame::ending::seal(b, frame::payload_end(Table::UNCOUNTED + section_length));
     fill(b, new, total);
     Edited::accepted(new)
-}
-
-// The `n` bytes at `from` go to `to`, by way of a copy.
-fn move_tail(b: &mut [u8], from: usize, to: usize, n: usize)
-    requires { ⌜ (n ≤ largest) × ((from + n ≤ length (now b)) × (to + n ≤ length (now b))) ⌝ }
-    ensures { λ r. ⌜ now (b .exit) ≡ sets (now (b .entry)) to (part (now (b .entry)) from n) ⌝ }
-{
-    let end = from + n;
-    let mut copy = [0u8; LARGEST];
-    wire::put_at(&mut copy, 0, &b[from..end]);
-    wire::put_at(b, to, &copy[..n]);
 }
 
 // The entry of a record that passed its checks: its length with the four bits, then the body.

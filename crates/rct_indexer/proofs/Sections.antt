@@ -24,7 +24,8 @@ use Rattle.rct.specs.Syntax.{headLength, rct, entryPlace}
 use Rattle.rct.specs.Reading.{countAt, after, loopPlace, linksVerdict, loopVerdict, payloadVerdict, plain, sectionAt}
 use Rattle.rct.proofs.Accepted.{place-is}
 use Rattle.rct.proofs.Checked.{count-is}
-use Rattle.rct.proofs.Payload.{drop-take, loop-same, links-same, links-alike}
+use Rattle.wire.proofs.Lists.{drop-take}
+use Rattle.rct.proofs.Payload.{loop-same, links-same, links-alike}
 use Rattle.rct_walker.specs.Entries.{endOf}
 use Rattle.rct_index.specs.Index.{setsOf, entryPlaces, filledPlaces, indexOf}
 use Rattle.rct_index.specs.Building.{descriptorPlace, loopRows, buildVerdict, built, building}

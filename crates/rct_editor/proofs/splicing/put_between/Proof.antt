@@ -4,6 +4,7 @@ use mathlib.Core.Path.{_≡_, sym, ap, _∙_}
 use native.Mathlib.Omega.{arith}
 use lib.ListN.{length}
 use lib.Seq.{length-sets}
+use Rattle.byte_moves.proofs.Exact.{moved-length}
 use Rattle.frame.specs.Syntax.{uncounted}
 use Rattle.rct_edit.proofs.Outcomes.{room-passed}
 use Rattle.rct_editor.proofs.Outcomes.{between-own, between-room, between-done, fitting}
@@ -88,20 +89,11 @@ add-behind-2 c =
 payload-end-requires : tie.Need-payload-end-requires
 payload-end-requires c κs = search needs
 
-sub-move-tail : tie.Need-sub-move-tail
-sub-move-tail c = search needs
+sub-move-within : tie.Need-sub-move-within
+sub-move-within c = search needs
 
-move-tail-requires : tie.Need-move-tail-requires
-move-tail-requires c κs =
-    let args = c .before .before .before .before .before .before .before .before .before .before .args in
-    let check-link = c .before .before .before .before .before .before .before .check-link in
-    let enum-told = c .before .before .before .before .before .enum-told in
-    let pre = c .before .before .before .before .before .before .before .before .before .before .pre in
-    let check-room = c .before .before .before .before .check-room in
-    let enum-told3 = c .before .before .enum-told3 in
-    let o = owned (args .b .now) (args .from) (args .to) (args .text .now) (args .link) (args .total) _ (check-link .ensures) (enum-told .given .1) (pre .1 .0) in
-    let f = fitting (args .b .now) (args .from) (args .to) (args .count) (args .text .now) (args .link) (o .fine) _ (o .is) (sym (check-room .ensures) ∙ enum-told3 .given .1) in
-    tail-moves (args .b .now) (args .from) (args .to) (args .text .now) (args .link) (args .total) _ _ _ (pre .0) (o .size) f (pre .1 .0) (c .payload-end .ensures)
+move-within-requires : tie.Need-move-within-requires
+move-within-requires c κs = search needs
 
 put-entry-requires : tie.Need-put-entry-requires
 put-entry-requires c κs =
@@ -111,10 +103,10 @@ put-entry-requires c κs =
     let pre = c .before .before .before .before .before .before .before .before .before .before .before .before .before .before .pre in
     let check-room = c .before .before .before .before .before .before .before .before .check-room in
     let enum-told3 = c .before .before .before .before .before .before .enum-told3 in
-    let move-tail = c .before .before .before .move-tail in
+    let move-within = c .before .before .before .move-within in
     let o = owned (args .b .now) (args .from) (args .to) (args .text .now) (args .link) (args .total) _ (check-link .ensures) (enum-told .given .1) (pre .1 .0) in
     let f = fitting (args .b .now) (args .from) (args .to) (args .count) (args .text .now) (args .link) (o .fine) _ (o .is) (sym (check-room .ensures) ∙ enum-told3 .given .1) in
-    (o .fine, (o .size, (omega (arith, o .size, f .is, f .fit), omega (arith, f .enough, simp length-sets at (ap length (move-tail .ensures))))))
+    (o .fine, (o .size, (omega (arith, o .size, f .is, f .fit), omega (arith, f .enough, ap length (move-within .ensures .1) ∙ moved-length (args .b .now) _ _ _))))
 
 put-numbers-requires : tie.Need-put-numbers-requires
 put-numbers-requires c κs =
@@ -125,10 +117,10 @@ put-numbers-requires c κs =
     let check-room = c .before .before .before .before .before .before .before .before .before .before .before .before .check-room in
     let enum-told3 = c .before .before .before .before .before .before .before .before .before .before .enum-told3 in
     let put-entry = c .before .before .before .put-entry in
-    let move-tail = c .before .before .before .before .before .before .before .move-tail in
+    let move-within = c .before .before .before .before .before .before .before .move-within in
     let o = owned (args .b .now) (args .from) (args .to) (args .text .now) (args .link) (args .total) _ (check-link .ensures) (enum-told .given .1) (pre .1 .0) in
     let f = fitting (args .b .now) (args .from) (args .to) (args .count) (args .text .now) (args .link) (o .fine) _ (o .is) (sym (check-room .ensures) ∙ enum-told3 .given .1) in
-    (omega (arith, simp length-sets at (ap length (put-entry .ensures)), simp length-sets at (ap length (move-tail .ensures))), (omega (arith, f .fit), pre .1 .1))
+    (omega (arith, simp length-sets at (ap length (put-entry .ensures)), ap length (move-within .ensures .1) ∙ moved-length (args .b .now) _ _ _), (omega (arith, f .fit), pre .1 .1))
 
 add-payload-end : tie.Need-add-payload-end
 add-payload-end c =
@@ -166,7 +158,7 @@ returns-3 c =
     let check-room = c .before .before .before .before .before .before .before .before .before .before .before .before .before .before .before .before .before .before .before .before .before .before .before .before .before .check-room in
     let enum-told3 = c .before .before .before .before .before .before .before .before .before .before .before .before .before .before .before .before .before .before .before .before .before .before .before .enum-told3 in
     let payload-end = c .before .before .before .before .before .before .before .before .before .before .before .before .before .before .before .before .before .before .before .before .before .payload-end in
-    let move-tail = c .before .before .before .before .before .before .before .before .before .before .before .before .before .before .before .before .before .before .before .before .move-tail in
+    let move-within = c .before .before .before .before .before .before .before .before .before .before .before .before .before .before .before .before .before .before .before .before .move-within in
     let put-entry = c .before .before .before .before .before .before .before .before .before .before .before .before .before .before .before .before .put-entry in
     let put-numbers = c .before .before .before .before .before .before .before .before .before .before .before .before .put-numbers in
     let payload-end2 = c .before .before .before .before .before .before .before .before .payload-end2 in
@@ -176,7 +168,9 @@ returns-3 c =
     let o = owned xs (args .from) (args .to) (args .text .now) (args .link) (args .total) _ (check-link .ensures) (enum-told .given .1) (pre .1 .0) in
     let room = sym (check-room .ensures) ∙ enum-told3 .given .1 in
     let len = args .total - uncounted - (args .to - args .from) + 2 + check-link .result .length in
-    let spliced = spliced-put xs _ _ _ (args .from) (args .to) (args .count) (args .text .now) (args .link) (args .from + 2 + check-link .result .length) (payload-end .result - args .to) len (o .fine) (move-tail .ensures) (put-entry .ensures) (put-numbers .ensures) (omega (arith, o .size)) (omega (arith, payload-end .ensures, pre .1 .0)) in
+    let f = fitting xs (args .from) (args .to) (args .count) (args .text .now) (args .link) (o .fine) _ (o .is) room in
+    let tail = move-within .ensures .1 ∙ sym (tail-moves xs (args .from) (args .to) (args .text .now) (args .link) (args .total) _ _ _ (pre .0) (o .size) f (pre .1 .0) (payload-end .ensures)) in
+    let spliced = spliced-put xs _ _ _ (args .from) (args .to) (args .count) (args .text .now) (args .link) (args .from + 2 + check-link .result .length) (payload-end .result - args .to) len (o .fine) tail (put-entry .ensures) (put-numbers .ensures) (omega (arith, o .size)) (omega (arith, payload-end .ensures, pre .1 .0)) in
     let done = finished-put xs _ _ _ (args .from) (args .to) (args .count) (args .text .now) (args .link) len (payload-end2 .result) (seal .result) (args .total) (room-passed _ _ room .enough) spliced (seal .ensures .1) (fill .ensures) (o .is) (payload-end2 .ensures) (seal .ensures .0) (pre .1 .0) in
     between-done xs (args .from) (args .to) (args .count) (args .text .now) (args .link) (o .fine) _ (o .is) _ _ _ room (done .1) (done .0) (c .accepted .ensures)
 
@@ -202,8 +196,8 @@ put-between-spec =
     add-behind
     add-behind-2
     payload-end-requires
-    sub-move-tail
-    move-tail-requires
+    sub-move-within
+    move-within-requires
     put-entry-requires
     put-numbers-requires
     add-payload-end

@@ -1,0 +1,77 @@
+-- `runs_up` meets its contract. Assumes nothing.
+use Prim.Native.Nat.{_-_, _≤_}
+use mathlib.Core.Path.{_≡_}
+use native.Mathlib.Omega.{arith}
+use Rattle.byte_moves.specs.Stages.{run, movedUp}
+use Rattle.byte_moves.proofs.Steps.{up-none, up-more, up-size}
+use Prim.Native.Nat.{_-_, _≤_}
+use mathlib.Core.Path.{_≡_}
+use Rattle.byte_moves.specs.Stages.{run, movedUp}
+use Rattle.byte_moves.proofs.Steps.{up-none, up-more, up-size}
+use borrow.Author.Needs.{needs}
+use Rattle.byte_moves.proofs.up.runs_up.Statement.{statement}
+use Rattle.byte_moves.proofs.up.runs_up.Tie as tie
+
+-- `runs_up` meets its contract. Assumes nothing.
+
+abbrev Inv-loop : tie.InvT-loop
+Inv-loop b₀ from to n left₀ b left = (left ≤ n) × (b ≡ movedUp b₀ from to n left)
+
+abbrev μ-loop : tie.MeasureT-loop
+μ-loop b₀ from to n left₀ b left = left
+
+loop-holds : tie.Need-loop-holds Inv-loop μ-loop
+loop-holds c =
+    let args = c .before .args in
+    let pre = c .before .pre in
+    (search needs, up-none (args .b .now) (args .from) (args .to) (args .n) (pre .0) (pre .1))
+
+add-move-run : tie.Need-add-move-run Inv-loop μ-loop
+add-move-run c = search needs
+
+add-move-run-2 : tie.Need-add-move-run-2 Inv-loop μ-loop
+add-move-run-2 c = search needs
+
+move-run-requires : tie.Need-move-run-requires Inv-loop μ-loop
+move-run-requires c κs =
+    let args = c .before .before .before .before .args in
+    let pre = c .before .before .before .before .pre in
+    let loop = c .before .before .loop in
+    let size = up-size (args .b .now) (args .from) (args .to) (args .n) (pre .0) (pre .1) _ (loop .left) (loop .inv .1) in
+    (omega arith, omega arith)
+
+loop-less : tie.Need-loop-less Inv-loop μ-loop
+loop-less c = search needs
+
+loop-again : tie.Need-loop-again Inv-loop μ-loop
+loop-again c =
+    let args = c .before .before .before .before .before .before .before .args in
+    let pre = c .before .before .before .before .before .before .before .pre in
+    let loop = c .before .before .before .before .before .loop in
+    let move-run = c .before .before .move-run in
+    (search needs, up-more (args .b .now) (args .from) (args .to) (args .n) (pre .0) (pre .1) _ _ (loop .left) (loop .left - run) run (loop .inv .1) (loop .inv .0) (omega arith) (move-run .ensures))
+
+same-length : tie.Need-same-length Inv-loop μ-loop
+same-length c =
+    let args = c .before .before .before .args in
+    let pre = c .before .before .before .pre in
+    let loop = c .before .loop in
+    up-size (args .b .now) (args .from) (args .to) (args .n) (pre .0) (pre .1) _ (loop .left) (loop .inv .1)
+
+returns : tie.Need-returns Inv-loop μ-loop
+returns c = search needs
+
+pub runs-up-spec : {M : Type 1} → statement M
+runs-up-spec =
+    tie.close
+    (tie.spec
+    Inv-loop
+    μ-loop
+    loop-holds
+    add-move-run
+    add-move-run-2
+    move-run-requires
+    loop-less
+    loop-again
+    same-length
+    returns)

@@ -1,0 +1,3 @@
+-- Bytes moved within a list.
+pub mod Moves
+pub mod Stages

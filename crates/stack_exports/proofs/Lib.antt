@@ -1,0 +1,2 @@
+-- That each export's contract leaves one outcome.
+pub mod Unique

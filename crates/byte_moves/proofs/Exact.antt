@@ -3,11 +3,11 @@
 use Prim.Native.Nat.{ℕ, _+_, _-_, _≤_, _<_}
 use mathlib.Core.Path.{_≡_, refl, sym, ap, _∙_}
 use mathlib.Core.Bool.{Bool, true, false}
-use mathlib.Core.List.{List}
+use mathlib.Core.List.{List, _++_}
 use native.Mathlib.Omega.{arith}
 use lib.Dec.{leb}
-use lib.ListN.{length, take, drop, getD}
-use lib.Seq.{sets, length-sets, take-at, getD-take, getD-drop}
+use lib.ListN.{length, take, drop, getD, take-append-drop}
+use lib.Seq.{sets, sets-eq, length-sets, take-add, take-at, getD-take, getD-drop}
 use borrow.Author.Tests.{le-leb, lt-leb}
 use Rattle.wire.specs.Choice.{pick}
 use Rattle.wire.specs.Lists.{part}
@@ -39,6 +39,20 @@ module _ (xs : List ℕ) (p q n : ℕ) where
       by2 : (b : Bool) → xs ≡ pick (pick b (leb (q + n) (length xs)) false) (sets xs q (part xs p n)) xs
       by2 true = rw no refl
       by2 false = refl
+
+  -- bytes that are there already
+  pub stays-there : p ≡ q → q + n ≤ length xs → (true ≡ bothWithin xs p q n) × (xs ≡ movedWithin xs p q n)
+  stays-there e l = let h : p + n ≤ length xs = omega arith in (moves h l .0, sym back ∙ moves h l .1)
+    where
+      size : length (part xs q n) ≡ n
+      size = length-part xs q n l
+
+      back : sets xs q (part xs p n) ≡ xs
+      back =
+          ap (λ m. sets xs q (part xs m n)) e ∙ sets-eq (part xs q n) xs q (omega (arith, size))
+          ∙ ap (λ m. take q xs ++ part xs q n ++ drop (q + m) xs) size
+          ∙ ap (λ r. r ++ drop (q + n) xs) (sym (take-add q n xs))
+          ∙ take-append-drop (q + n) xs
 
   pub moved-length : length (movedWithin xs p q n) ≡ length xs
   unfolding movedWithin

@@ -23,6 +23,9 @@ pub fn move_within(b: &mut [u8], from: usize, to: usize, n: usize) -> bool
     if last < to {
         return false;
     }
+    if from == to {
+        return true;
+    }
     if from < to {
         up::move_up(b, from, to, n);
     } else {

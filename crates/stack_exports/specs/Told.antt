@@ -17,9 +17,8 @@ use Rattle.rct_walker.specs.declared.entry.EntryRead.{EntryRead}
 use Rattle.rct_walker.specs.declared.entry.EntryRead.the-variants as entry
 use Rattle.rct_reader.specs.Sections.{sectionRead}
 use Rattle.rct_reader.specs.declared.RctSection.{RctSection}
-use Rattle.rct_edit.specs.Edit.{mostLinks, Outcome}
+use Rattle.rct_edit.specs.Edit.{Outcome}
 use Rattle.rct_edit.specs.Calls.{making}
-use Rattle.rct_index.specs.declared.RctIndex.{RctIndex}
 use Rattle.rnt_reader.specs.declared.RntRead.{RntRead}
 use Rattle.rnt_reader.specs.declared.RntRead.the-variants as resolution
 use Rattle.rnt_providers.specs.declared.ProviderRead.{ProviderRead}
@@ -30,10 +29,6 @@ use Rattle.rnt_providers.specs.declared.AuthorityRead.the-variants as authority
 -- the length of item i's text, and 0 where a record has no place for such an item
 abbrev pub textLength : LinkRead → ℕ → ℕ
 textLength r i = pick (ltb i (numberItems .widest)) (getD (r .link .items) i noItem .«promotional_text» .length) 0
-
--- the place of link k, and 0 where an index has none for such a link
-abbrev pub placeTold : RctIndex → ℕ → ℕ
-placeTold x k = pick (ltb k mostLinks) (getD (x .places) k 0) 0
 
 -- of an answer that is no refusal one number, of a refusal its own
 unfoldable pub itemTold : ItemRead → ℕ

@@ -2,7 +2,7 @@
 use Prim.Native.Nat.{_-_}
 use mathlib.Core.Path.{_∙_}
 use native.Mathlib.Omega.{arith}
-use Rattle.byte_moves.proofs.Exact.{moves, stays-from, stays-to}
+use Rattle.byte_moves.proofs.Exact.{moves, stays-from, stays-to, stays-there}
 use borrow.Author.Needs.{needs}
 use Rattle.byte_moves.proofs.move_within.Statement.{statement}
 use Rattle.byte_moves.proofs.move_within.Tie as tie
@@ -25,6 +25,12 @@ returns-3 c =
     let args = c .before .before .before .before .args in
     stays-to (args .b .now) (args .from) (args .to) (args .n) (omega arith)
 
+returns-4 : tie.Need-returns-4
+returns-4 c =
+    let if4 = c .if4 in
+    let args = c .before .before .before .before .before .args in
+    stays-there (args .b .now) (args .from) (args .to) (args .n) (if4 .taken) (omega arith)
+
 move-up-requires : tie.Need-move-up-requires
 move-up-requires c κs = search needs
 
@@ -34,9 +40,9 @@ move-down-requires c κs = search needs
 same-length : tie.Need-same-length
 same-length c = search needs
 
-returns-4 : tie.Need-returns-4
-returns-4 c =
-    let args = c .before .before .before .before .before .before .before .before .before .args in
+returns-5 : tie.Need-returns-5
+returns-5 c =
+    let args = c .before .before .before .before .before .before .before .before .before .before .args in
     let move-up = c .before .before .move-up in
     let m = moves (args .b .now) (args .from) (args .to) (args .n) (omega arith) (omega arith) in
     (m .0, move-up .ensures ∙ m .1)
@@ -44,9 +50,9 @@ returns-4 c =
 same-length-2 : tie.Need-same-length-2
 same-length-2 c = search needs
 
-returns-5 : tie.Need-returns-5
-returns-5 c =
-    let args = c .before .before .before .before .before .before .before .before .before .args in
+returns-6 : tie.Need-returns-6
+returns-6 c =
+    let args = c .before .before .before .before .before .before .before .before .before .before .args in
     let move-down = c .before .before .move-down in
     let m = moves (args .b .now) (args .from) (args .to) (args .n) (omega arith) (omega arith) in
     (m .0, move-down .ensures ∙ m .1)
@@ -59,9 +65,10 @@ move-within-spec =
     sub-last
     returns-2
     returns-3
+    returns-4
     move-up-requires
     move-down-requires
     same-length
-    returns-4
+    returns-5
     same-length-2
-    returns-5)
+    returns-6)

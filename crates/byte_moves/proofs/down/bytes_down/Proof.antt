@@ -4,15 +4,9 @@ use mathlib.Core.Path.{_≡_, ap, _∙_}
 use native.Mathlib.Omega.{arith}
 use Rattle.byte_moves.specs.Stages.{movedDown}
 use Rattle.byte_moves.proofs.Steps.{down-more, down-all, down-size, byte-moved}
-use Prim.Native.Nat.{_+_, _-_, _≤_}
-use mathlib.Core.Path.{_≡_, ap, _∙_}
-use Rattle.byte_moves.specs.Stages.{movedDown}
-use Rattle.byte_moves.proofs.Steps.{down-more, down-all, down-size, byte-moved}
 use borrow.Author.Needs.{needs}
 use Rattle.byte_moves.proofs.down.bytes_down.Statement.{statement}
 use Rattle.byte_moves.proofs.down.bytes_down.Tie as tie
-
--- `bytes_down` meets its contract. Assumes nothing.
 
 abbrev Inv-loop : tie.InvT-loop
 Inv-loop b₀ from to n i₀ b i = (i ≤ n) × (b ≡ movedDown b₀ from to n i)

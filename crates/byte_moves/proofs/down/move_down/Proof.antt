@@ -4,15 +4,9 @@ use mathlib.Core.Path.{_≡_, ap, _∙_}
 use native.Mathlib.Omega.{arith}
 use Rattle.byte_moves.specs.Stages.{movedDown}
 use Rattle.byte_moves.proofs.Steps.{down-more, down-all, down-size}
-use Prim.Native.Nat.{_+_, _-_}
-use mathlib.Core.Path.{_≡_, ap, _∙_}
-use Rattle.byte_moves.specs.Stages.{movedDown}
-use Rattle.byte_moves.proofs.Steps.{down-more, down-all, down-size}
 use borrow.Author.Needs.{needs}
 use Rattle.byte_moves.proofs.down.move_down.Statement.{statement}
 use Rattle.byte_moves.proofs.down.move_down.Tie as tie
-
--- `move_down` meets its contract. Assumes nothing.
 
 runs-down-requires : tie.Need-runs-down-requires
 runs-down-requires c κs = search needs

@@ -4,15 +4,9 @@ use mathlib.Core.Path.{_≡_}
 use native.Mathlib.Omega.{arith}
 use Rattle.byte_moves.specs.Stages.{run, movedDown}
 use Rattle.byte_moves.proofs.Steps.{down-more, down-size}
-use Prim.Native.Nat.{_-_, _≤_}
-use mathlib.Core.Path.{_≡_}
-use Rattle.byte_moves.specs.Stages.{run, movedDown}
-use Rattle.byte_moves.proofs.Steps.{down-more, down-size}
 use borrow.Author.Needs.{needs}
 use Rattle.byte_moves.proofs.down.runs_down.Statement.{statement}
 use Rattle.byte_moves.proofs.down.runs_down.Tie as tie
-
--- `runs_down` meets its contract. Assumes nothing.
 
 abbrev Inv-loop : tie.InvT-loop
 Inv-loop b₀ from to n done₀ b done = (done ≤ n) × (b ≡ movedDown b₀ from to n done)

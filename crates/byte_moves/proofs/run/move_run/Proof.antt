@@ -3,15 +3,9 @@ use Prim.Native.Nat.{ℕ, _-_}
 use lib.ListN.{replicate, length-replicate}
 use Rattle.byte_moves.specs.Stages.{run}
 use Rattle.byte_moves.proofs.Steps.{run-moved}
-use Prim.Native.Nat.{ℕ, _-_}
-use lib.ListN.{replicate, length-replicate}
-use Rattle.byte_moves.specs.Stages.{run}
-use Rattle.byte_moves.proofs.Steps.{run-moved}
 use borrow.Author.Needs.{needs}
 use Rattle.byte_moves.proofs.run.move_run.Statement.{statement}
 use Rattle.byte_moves.proofs.run.move_run.Tie as tie
-
--- `move_run` meets its contract. Assumes nothing.
 
 add-end : tie.Need-add-end
 add-end c = search needs

@@ -3,14 +3,9 @@ use Prim.Native.Nat.{_-_}
 use mathlib.Core.Path.{_∙_}
 use native.Mathlib.Omega.{arith}
 use Rattle.byte_moves.proofs.Steps.{at-start, up-more, up-all, up-size}
-use Prim.Native.Nat.{_-_}
-use mathlib.Core.Path.{_∙_}
-use Rattle.byte_moves.proofs.Steps.{at-start, up-more, up-all, up-size}
 use borrow.Author.Needs.{needs}
 use Rattle.byte_moves.proofs.up.move_up.Statement.{statement}
 use Rattle.byte_moves.proofs.up.move_up.Tie as tie
-
--- `move_up` meets its contract. Assumes nothing.
 
 runs-up-requires : tie.Need-runs-up-requires
 runs-up-requires c κs = search needs

@@ -4,15 +4,9 @@ use mathlib.Core.Path.{_≡_}
 use native.Mathlib.Omega.{arith}
 use Rattle.byte_moves.specs.Stages.{run, movedUp}
 use Rattle.byte_moves.proofs.Steps.{up-none, up-more, up-size}
-use Prim.Native.Nat.{_-_, _≤_}
-use mathlib.Core.Path.{_≡_}
-use Rattle.byte_moves.specs.Stages.{run, movedUp}
-use Rattle.byte_moves.proofs.Steps.{up-none, up-more, up-size}
 use borrow.Author.Needs.{needs}
 use Rattle.byte_moves.proofs.up.runs_up.Statement.{statement}
 use Rattle.byte_moves.proofs.up.runs_up.Tie as tie
-
--- `runs_up` meets its contract. Assumes nothing.
 
 abbrev Inv-loop : tie.InvT-loop
 Inv-loop b₀ from to n left₀ b left = (left ≤ n) × (b ≡ movedUp b₀ from to n left)

@@ -93,9 +93,6 @@ module _ (xs : List ℕ) (p q n : ℕ) (above : p ≤ q) (room : q + n ≤ lengt
   pub up-all : movedUp xs p q n 0 ≡ sets xs q rising
   up-all = ap (λ m. sets xs m rising) (add-zero q)
 
-  pub up-size : (ys : List ℕ) (m : ℕ) → ys ≡ movedUp xs p q n m → length ys ≡ length xs
-  up-size ys m e = ap length e ∙ length-sets xs (q + m) (drop m rising)
-
 -- ---- down, from the first one up
 
 module _ (xs : List ℕ) (p q n : ℕ) (below : q ≤ p) (room : p + n ≤ length xs) where
@@ -121,9 +118,6 @@ module _ (xs : List ℕ) (p q n : ℕ) (below : q ≤ p) (room : p + n ≤ lengt
 
   pub down-all : movedDown xs p q n n ≡ sets xs q falling
   down-all = ap (sets xs q) (take-all n falling (omega (arith, falling-size)))
-
-  pub down-size : (ys : List ℕ) (k : ℕ) → ys ≡ movedDown xs p q n k → length ys ≡ length xs
-  down-size ys k e = ap length e ∙ length-sets xs q (take k falling)
 
 -- ---- a byte is a run of one
 

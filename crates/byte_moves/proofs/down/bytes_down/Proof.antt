@@ -2,8 +2,10 @@
 use Prim.Native.Nat.{_+_, _-_, _≤_}
 use mathlib.Core.Path.{_≡_, ap, _∙_}
 use native.Mathlib.Omega.{arith}
+use lib.ListN.{length}
+use lib.Seq.{length-sets}
 use Rattle.byte_moves.specs.Stages.{movedDown}
-use Rattle.byte_moves.proofs.Steps.{down-more, down-all, down-size, byte-moved}
+use Rattle.byte_moves.proofs.Steps.{down-more, down-all, byte-moved}
 use borrow.Author.Needs.{needs}
 use Rattle.byte_moves.proofs.down.bytes_down.Statement.{statement}
 use Rattle.byte_moves.proofs.down.bytes_down.Tie as tie
@@ -22,20 +24,16 @@ add-b c = search needs
 
 slice-read-b : tie.Need-slice-read-b Inv-loop μ-loop
 slice-read-b c =
-    let args = c .before .before .before .args in
-    let pre = c .before .before .before .pre in
     let loop = c .before .before .loop in
-    omega (arith, down-size (args .b .now) (args .from) (args .to) (args .n) (pre .0) (pre .1) _ (loop .i) (loop .inv .1))
+    omega (arith, simp length-sets at (ap length (loop .inv .1)))
 
 add-b-2 : tie.Need-add-b-2 Inv-loop μ-loop
 add-b-2 c = search needs
 
 slice-write-b : tie.Need-slice-write-b Inv-loop μ-loop
 slice-write-b c =
-    let args = c .before .before .before .args in
-    let pre = c .before .before .before .pre in
     let loop = c .before .before .loop in
-    omega (arith, down-size (args .b .now) (args .from) (args .to) (args .n) (pre .0) (pre .1) _ (loop .i) (loop .inv .1))
+    omega (arith, simp length-sets at (ap length (loop .inv .1)))
 
 add-i : tie.Need-add-i Inv-loop μ-loop
 add-i c = search needs
@@ -48,15 +46,13 @@ loop-again c =
     let args = c .before .before .before .args in
     let pre = c .before .before .before .pre in
     let loop = c .before .before .loop in
-    let size = down-size (args .b .now) (args .from) (args .to) (args .n) (pre .0) (pre .1) _ (loop .i) (loop .inv .1) in
+    let size = simp length-sets at (ap length (loop .inv .1)) in
     (search needs, down-more (args .b .now) (args .from) (args .to) (args .n) (pre .0) (pre .1) _ _ (loop .i) 1 (loop .inv .1) (omega arith) (byte-moved (loop .b) (args .from + loop .i) (args .to + loop .i) (omega arith)))
 
 same-length : tie.Need-same-length Inv-loop μ-loop
 same-length c =
-    let args = c .before .before .args in
-    let pre = c .before .before .pre in
     let loop = c .before .loop in
-    down-size (args .b .now) (args .from) (args .to) (args .n) (pre .0) (pre .1) _ (loop .i) (loop .inv .1)
+    simp length-sets at (ap length (loop .inv .1))
 
 returns : tie.Need-returns Inv-loop μ-loop
 returns c =

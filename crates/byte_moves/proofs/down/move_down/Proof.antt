@@ -2,8 +2,10 @@
 use Prim.Native.Nat.{_+_, _-_}
 use mathlib.Core.Path.{_≡_, ap, _∙_}
 use native.Mathlib.Omega.{arith}
+use lib.ListN.{length}
+use lib.Seq.{length-sets}
 use Rattle.byte_moves.specs.Stages.{movedDown}
-use Rattle.byte_moves.proofs.Steps.{down-more, down-all, down-size}
+use Rattle.byte_moves.proofs.Steps.{down-more, down-all}
 use borrow.Author.Needs.{needs}
 use Rattle.byte_moves.proofs.down.move_down.Statement.{statement}
 use Rattle.byte_moves.proofs.down.move_down.Tie as tie
@@ -22,10 +24,8 @@ sub-bytes-down c = search needs
 
 bytes-down-requires : tie.Need-bytes-down-requires
 bytes-down-requires c κs =
-    let args = c .before .before .before .before .before .before .args in
-    let pre = c .before .before .before .before .before .before .pre in
     let runs-down = c .before .before .before .runs-down in
-    let size = down-size (args .b .now) (args .from) (args .to) (args .n) (pre .0) (pre .1) _ (runs-down .result) (runs-down .ensures .1) in
+    let size = simp length-sets at (ap length (runs-down .ensures .1)) in
     (omega arith, omega (arith, runs-down .ensures .0))
 
 same-length : tie.Need-same-length

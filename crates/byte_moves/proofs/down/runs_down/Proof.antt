@@ -1,9 +1,11 @@
 -- `runs_down` meets its contract. Assumes nothing.
 use Prim.Native.Nat.{_-_, _≤_}
-use mathlib.Core.Path.{_≡_}
+use mathlib.Core.Path.{_≡_, ap}
 use native.Mathlib.Omega.{arith}
+use lib.ListN.{length}
+use lib.Seq.{length-sets}
 use Rattle.byte_moves.specs.Stages.{run, movedDown}
-use Rattle.byte_moves.proofs.Steps.{down-more, down-size}
+use Rattle.byte_moves.proofs.Steps.{down-more}
 use borrow.Author.Needs.{needs}
 use Rattle.byte_moves.proofs.down.runs_down.Statement.{statement}
 use Rattle.byte_moves.proofs.down.runs_down.Tie as tie
@@ -28,10 +30,8 @@ add-move-run-2 c = search needs
 
 move-run-requires : tie.Need-move-run-requires Inv-loop μ-loop
 move-run-requires c κs =
-    let args = c .before .before .before .before .args in
-    let pre = c .before .before .before .before .pre in
     let loop = c .before .before .loop in
-    let size = down-size (args .b .now) (args .from) (args .to) (args .n) (pre .0) (pre .1) _ (loop .done) (loop .inv .1) in
+    let size = simp length-sets at (ap length (loop .inv .1)) in
     (omega arith, omega arith)
 
 add-done : tie.Need-add-done Inv-loop μ-loop
@@ -50,10 +50,8 @@ loop-again c =
 
 same-length : tie.Need-same-length Inv-loop μ-loop
 same-length c =
-    let args = c .before .before .before .args in
-    let pre = c .before .before .before .pre in
     let loop = c .before .loop in
-    down-size (args .b .now) (args .from) (args .to) (args .n) (pre .0) (pre .1) _ (loop .done) (loop .inv .1)
+    simp length-sets at (ap length (loop .inv .1))
 
 returns : tie.Need-returns Inv-loop μ-loop
 returns c = search needs

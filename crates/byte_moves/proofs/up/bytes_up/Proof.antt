@@ -2,8 +2,10 @@
 use Prim.Native.Nat.{_+_, _-_, _≤_}
 use mathlib.Core.Path.{_≡_, ap, _∙_}
 use native.Mathlib.Omega.{arith}
+use lib.ListN.{length}
+use lib.Seq.{length-sets}
 use Rattle.byte_moves.specs.Stages.{movedUp}
-use Rattle.byte_moves.proofs.Steps.{up-none, up-more, up-all, up-size, byte-moved}
+use Rattle.byte_moves.proofs.Steps.{up-none, up-more, up-all, byte-moved}
 use borrow.Author.Needs.{needs}
 use Rattle.byte_moves.proofs.up.bytes_up.Statement.{statement}
 use Rattle.byte_moves.proofs.up.bytes_up.Tie as tie
@@ -28,20 +30,16 @@ add-b c = search needs
 
 slice-read-b : tie.Need-slice-read-b Inv-loop μ-loop
 slice-read-b c =
-    let args = c .before .before .before .args in
-    let pre = c .before .before .before .pre in
     let loop = c .before .before .loop in
-    omega (arith, up-size (args .b .now) (args .from) (args .to) (args .n) (pre .0) (pre .1) _ (loop .left) (loop .inv .1))
+    omega (arith, simp length-sets at (ap length (loop .inv .1)))
 
 add-b-2 : tie.Need-add-b-2 Inv-loop μ-loop
 add-b-2 c = search needs
 
 slice-write-b : tie.Need-slice-write-b Inv-loop μ-loop
 slice-write-b c =
-    let args = c .before .before .before .args in
-    let pre = c .before .before .before .pre in
     let loop = c .before .before .loop in
-    omega (arith, up-size (args .b .now) (args .from) (args .to) (args .n) (pre .0) (pre .1) _ (loop .left) (loop .inv .1))
+    omega (arith, simp length-sets at (ap length (loop .inv .1)))
 
 loop-less : tie.Need-loop-less Inv-loop μ-loop
 loop-less c = search needs
@@ -51,15 +49,13 @@ loop-again c =
     let args = c .before .before .before .args in
     let pre = c .before .before .before .pre in
     let loop = c .before .before .loop in
-    let size = up-size (args .b .now) (args .from) (args .to) (args .n) (pre .0) (pre .1) _ (loop .left) (loop .inv .1) in
+    let size = simp length-sets at (ap length (loop .inv .1)) in
     (search needs, up-more (args .b .now) (args .from) (args .to) (args .n) (pre .0) (pre .1) _ _ (loop .left) (loop .left - 1) 1 (loop .inv .1) (loop .inv .0) (omega arith) (byte-moved (loop .b) (args .from + (loop .left - 1)) (args .to + (loop .left - 1)) (omega arith)))
 
 same-length : tie.Need-same-length Inv-loop μ-loop
 same-length c =
-    let args = c .before .before .args in
-    let pre = c .before .before .pre in
     let loop = c .before .loop in
-    up-size (args .b .now) (args .from) (args .to) (args .n) (pre .0) (pre .1) _ (loop .left) (loop .inv .1)
+    simp length-sets at (ap length (loop .inv .1))
 
 returns : tie.Need-returns Inv-loop μ-loop
 returns c =

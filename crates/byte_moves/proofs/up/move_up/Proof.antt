@@ -1,8 +1,10 @@
 -- `move_up` meets its contract. Assumes nothing.
 use Prim.Native.Nat.{_-_}
-use mathlib.Core.Path.{_∙_}
+use mathlib.Core.Path.{ap, _∙_}
 use native.Mathlib.Omega.{arith}
-use Rattle.byte_moves.proofs.Steps.{at-start, up-more, up-all, up-size}
+use lib.ListN.{length}
+use lib.Seq.{length-sets}
+use Rattle.byte_moves.proofs.Steps.{at-start, up-more, up-all}
 use borrow.Author.Needs.{needs}
 use Rattle.byte_moves.proofs.up.move_up.Statement.{statement}
 use Rattle.byte_moves.proofs.up.move_up.Tie as tie
@@ -12,10 +14,9 @@ runs-up-requires c κs = search needs
 
 bytes-up-requires : tie.Need-bytes-up-requires
 bytes-up-requires c κs =
-    let args = c .before .before .before .before .before .before .args in
     let pre = c .before .before .before .before .before .before .pre in
     let runs-up = c .before .before .before .runs-up in
-    let size = up-size (args .b .now) (args .from) (args .to) (args .n) (pre .0) (pre .1) _ (runs-up .result) (runs-up .ensures .1) in
+    let size = simp length-sets at (ap length (runs-up .ensures .1)) in
     (pre .0, omega (arith, runs-up .ensures .0))
 
 same-length : tie.Need-same-length

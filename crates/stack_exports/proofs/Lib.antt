@@ -1,2 +1,3 @@
--- That each export's contract leaves one outcome.
+-- What the exports tell, and that each of their contracts leaves one outcome.
+pub mod Rows
 pub mod Unique

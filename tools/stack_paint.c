@@ -9,11 +9,12 @@ int printf(const char *, ...), strcmp(const char *, const char *);
 int memcmp(const void *, const void *, usize), bcmp(const void *, const void *, usize);
 void *memcpy(void *, const void *, usize), *memmove(void *, const void *, usize), *memset(void *, int, usize);
 
-#define MOST 4098 /* the most bytes of a section */
-#define ROOM (MOST + 100)
+#define MOST 4096 /* the most bytes of a section that is written, and that passes the checked reading */
+#define LONGEST 4098 /* the most that section_length can tell, which the plain reading takes */
+#define ROOM (LONGEST + 100)
 #define SMALLEST 8 /* the bytes of a link's body with link type 0 and an empty URI, and nothing else */
 #define LARGEST (MOST - 19) /* those of a body that is alone in its section */
-#define LOOP ((MOST - 17) / 2 * 2) /* those of empty descriptors that are alone in theirs: 2,040 for 4,098 */
+#define LOOP ((MOST - 17) / 2 * 2) /* those of empty descriptors that are alone in theirs: 2,039 of them */
 #define LAST 60 /* the last text of a link is longer than the others by this, which is above all refusal numbers */
 #define CROWD (SMALLEST + 63 * 4 + LAST) /* the bytes of a body with 63 items */
 
@@ -85,7 +86,7 @@ static void finish(void) {
     u32 crc = crc_of(given, size);
     put16(crc >> 16), put16(crc & 65535);
     lent = ROOM;
-    if (size > MOST) wrong = 1, printf("wrong: a section of %lu bytes\n", size);
+    if (size > LONGEST) wrong = 1, printf("wrong: a section of %lu bytes\n", size);
 }
 
 /* The byte before the CRC is changed, and the CRC made good again. */
@@ -162,10 +163,10 @@ static void row(const void *f, const char *call, const char *input, usize want, 
 #define LENT (usize)b, lent
 #define BODY (usize)body, body_size
 
-/* Of an accepted section: all its links. */
+/* Of a section that the plain reading accepts: all its links. */
 static void reads(const char *input) {
     READ(rct_read_section, input, size, LENT);
-    READ(rct_check_section, input, size, LENT);
+    READ(rct_check_section, input, size > MOST ? 0 : size, LENT);
     READ(section_crc, input, 0, (usize)b, size);
     for (usize k = 0; k < given[10]; k++) {
         READ(rct_read_entry, input, links[k].at + links[k].size, (usize)b, size - 4, links[k].at);
@@ -256,6 +257,14 @@ static void loops(void) {
     sized_body(LARGEST), rct(), loop(0), append("up to the limit to no links", 1);
 }
 
+/* Read as any other, and not edited. */
+static void above_the_limit(void) {
+    rct(), loop((LONGEST - 17) / 2 * 2), reads("2,040 empty descriptors, above the limit");
+    sized_body(LARGEST + 1), rct(), link(), loop(0), reads("a link up to above the limit");
+    append("to a section above the limit", 0), replace("a link of a section above the limit", 0, 0);
+    sized_body(SMALLEST), replace("a link that is above the limit by a small one", 0, 0);
+}
+
 /* Links of type 1 and 2 with each kind of locator, which have all eight lengths, and of types 3 and 15. */
 static void locators(void) {
     rct();
@@ -319,13 +328,14 @@ static void rnt(const char *input, usize common, usize providers, usize authorit
     }
     finish();
     READ(rnt_read_section, input, size, LENT);
-    READ(rnt_check_section, input, size, LENT);
+    READ(rnt_check_section, input, size > MOST ? 28 : size, LENT);
     READ(rnt_read_provider, input, providers ? authorities : 21, LENT, providers - 1);
     READ(rnt_read_authority, input, providers && authorities ? name : 21, LENT, providers - 1, authorities - 1);
 }
 
 static void notifications(void) {
     rnt("common descriptors alone", 4000, 0, 0, 0);
+    rnt("common descriptors above the limit", 4082, 0, 0, 0);
     rnt("816 providers", 0, 816, 0, 0);
     rnt("one provider with 1,350 authorities", 0, 1, 1350, 0);
     rnt("3 providers with 4 authorities each and long names", 100, 3, 4, 255);
@@ -354,7 +364,7 @@ static void memory(void) {
 
 int main(void) {
     memory();
-    many_links(), large_links(), moved_tails(), loops(), locators(), refusals(), making(), notifications();
+    many_links(), large_links(), moved_tails(), loops(), above_the_limit(), locators(), refusals(), making(), notifications();
     for (int i = 0; deepest[i].call; i++) printf("%s\t%lu\t%s\n", deepest[i].call, deepest[i].depth, deepest[i].input);
     return wrong;
 }

@@ -4,5 +4,6 @@ pub mod Endings
 pub mod Listed
 pub mod Readings
 pub mod Indicator
+pub mod Limit
 pub mod Tables
 pub mod Unique

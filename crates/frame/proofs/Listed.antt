@@ -17,7 +17,6 @@ use Rattle.wire.specs.declared.verdict.Verdict.the-variants.{Fine}
 use Rattle.wire.proofs.Among.{listed, allListed, listed-here, listed-behind, Among, among-fine, among-row, among-then, among-more}
 use Rattle.wire.proofs.Verdicts.{pass-ltb, due-pass}
 use Rattle.section_header.specs.Reading.{syntaxIndicator}
-use Rattle.frame.specs.Syntax.{limit}
 use Rattle.frame.specs.Reading.{declared, plainDemands, checkedDemands, indicatorRow, opened, crcRow, readingBy, checkedBy}
 use Rattle.frame.specs.Ending.{crcRoom, crcVerdict}
 use Rattle.frame.specs.declared.Table.{Table}
@@ -28,20 +27,15 @@ use Rattle.frame.specs.declared.Demands.{Demands}
 abbrev lengths : List ℕ
 lengths = tooShort ∷ wrongLength ∷ []
 
-abbrev indicatedLengths : List ℕ
-indicatedLengths = lengths ++ noSyntaxIndicator ∷ []
-
-abbrev limitedLengths : List ℕ
-limitedLengths = indicatedLengths ++ sectionTooLong ∷ []
+-- and those of what a reading demands
+abbrev demandedLengths : List ℕ
+demandedLengths = lengths ++ noSyntaxIndicator ∷ sectionTooLong ∷ []
 
 abbrev pub opening : Table → List ℕ
 opening t = t .other ∷ lengths
 
-abbrev pub indicatedOpening : Table → List ℕ
-indicatedOpening t = t .other ∷ indicatedLengths
-
-abbrev pub limitedOpening : Table → List ℕ
-limitedOpening t = t .other ∷ limitedLengths
+abbrev pub demandedOpening : Table → List ℕ
+demandedOpening t = t .other ∷ demandedLengths
 
 module _ (t : Table) (d : Demands) (xs : List ℕ) where
   limitRow : Verdict
@@ -57,33 +51,20 @@ module _ (t : Table) (d : Demands) (xs : List ℕ) where
       (among-then ns _ _ (among-row ns _ (t .other) _ _ (listed-here (t .other) ms))
       (among-then ns _ _ i (among-then ns _ _ (among-row ns _ wrongLength _ _ wrong) (among-then ns _ _ (among-row ns _ wrongLength _ _ wrong) l))))
 
-  indicator-listed : (ms : List ℕ) → listed noSyntaxIndicator ms ≡ true → Among (t .other ∷ ms) (indicatorRow d xs)
-  indicator-listed ms h = among-row (t .other ∷ ms) _ noSyntaxIndicator _ _ (listed-behind noSyntaxIndicator (t .other) ms h)
-
-  limit-passed : longest ≤ d .most → limitRow ≡ Fine
-  unfolding limitRow
-  limit-passed h = pass-ltb (d .most) (declared xs) _ _ _ (omega arith)
-
   -- whatever is demanded
-  pub limited-listed : Among (limitedOpening t) (opened t d xs)
+  pub demanded-listed : Among (demandedOpening t) (opened t d xs)
   unfolding limitRow
-  limited-listed =
-      rows-listed limitedLengths refl refl (indicator-listed limitedLengths refl)
-      (among-row (limitedOpening t) _ sectionTooLong _ _ (listed-behind sectionTooLong (t .other) limitedLengths refl))
+  demanded-listed =
+      let behind : (n : ℕ) → listed n demandedLengths ≡ true → listed n (demandedOpening t) ≡ true = λ n h. listed-behind n (t .other) demandedLengths h in
+      rows-listed demandedLengths refl refl (among-row (demandedOpening t) _ noSyntaxIndicator _ _ (behind noSyntaxIndicator refl)) (among-row (demandedOpening t) _ sectionTooLong _ _ (behind sectionTooLong refl))
 
-  -- 28 is no answer where every length is taken that 12 bits tell
-  pub indicated-listed : longest ≤ d .most → Among (indicatedOpening t) (opened t d xs)
-  indicated-listed h = rows-listed indicatedLengths refl refl (indicator-listed indicatedLengths refl) (rw (limit-passed h) (among-fine (indicatedOpening t)))
-
-  -- nor is 38 where the indicator is not demanded either, as in the plain reading
+  -- neither 38 nor 28 where the indicator is not demanded and every length is taken that 12 bits tell, as in the plain reading
   pub opening-listed : d .indicator ≡ false → longest ≤ d .most → Among (opening t) (opened t d xs)
+  unfolding limitRow
   opening-listed u h =
-      let fine : indicatorRow d xs ≡ Fine = due-pass (d .indicator) (syntaxIndicator (getD xs 1 0)) _ _ _ (λ e. absurd (false≢true (sym u ∙ e))) in
-      rows-listed lengths refl refl (rw fine (among-fine (opening t))) (rw (limit-passed h) (among-fine (opening t)))
-
--- the checked reading takes them all too, as long as the limit is not below the field's
-pub limit-reaches : longest ≤ checkedDemands .most
-limit-reaches = omega arith
+      let indicator : indicatorRow d xs ≡ Fine = due-pass (d .indicator) (syntaxIndicator (getD xs 1 0)) _ _ _ (λ e. absurd (false≢true (sym u ∙ e))) in
+      let limit : limitRow ≡ Fine = pass-ltb (d .most) (declared xs) _ _ _ (omega arith) in
+      rows-listed lengths refl refl (rw indicator (among-fine (opening t))) (rw limit (among-fine (opening t)))
 
 -- ---- the CRC
 
@@ -106,16 +87,8 @@ module _ (t : Table) (rows : List ℕ → Verdict) (ns : List ℕ) (own : (xs : 
   unfolding readingBy
   plain-among a xs = among-then ns _ _ (among-more (opening t) ns _ a (opening-listed t plainDemands xs refl (omega arith))) (own xs)
 
-  -- by a list ms that has those and 20
-  module _ (ms : List ℕ) (more : allListed ns ms ≡ true) (crc : listed wrongCrc ms ≡ true) where
-    behind-opening : (xs : List ℕ) → Among ms (opened t checkedDemands xs) → Among ms (checkedBy t rows xs)
-    unfolding readingBy checkedBy crcRow
-    behind-opening xs o =
-        among-then ms _ _ (among-then ms _ _ o (among-more ns ms _ more (own xs))) (among-row ms _ wrongCrc _ _ crc)
-
-    pub checked-among : allListed (indicatedOpening t) ms ≡ true → (xs : List ℕ) → Among ms (checkedBy t rows xs)
-    checked-among a xs = behind-opening xs (among-more (indicatedOpening t) ms _ a (indicated-listed t checkedDemands xs limit-reaches))
-
-    -- whatever the limit is
-    pub limited-among : allListed (limitedOpening t) ms ≡ true → (xs : List ℕ) → Among ms (checkedBy t rows xs)
-    limited-among a xs = behind-opening xs (among-more (limitedOpening t) ms _ a (limited-listed t checkedDemands xs))
+  -- by a list ms that has those, 38, 28 and 20
+  pub checked-among : (ms : List ℕ) → allListed (demandedOpening t) ms ≡ true → allListed ns ms ≡ true → listed wrongCrc ms ≡ true → (xs : List ℕ) → Among ms (checkedBy t rows xs)
+  unfolding readingBy checkedBy crcRow
+  checked-among ms a more crc xs =
+      among-then ms _ _ (among-then ms _ _ (among-more (demandedOpening t) ms _ a (demanded-listed t checkedDemands xs)) (among-more ns ms _ more (own xs))) (among-row ms _ wrongCrc _ _ crc)

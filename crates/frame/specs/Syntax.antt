@@ -25,9 +25,10 @@ crcLength = 4
 abbrev pub longestPayload : ℕ
 longestPayload = uncounted + longest - crcLength
 
--- the greatest section_length that is written, and that a checked reading takes
+-- the greatest section_length that is written, and that a checked reading takes: that of a private section shall not exceed 4093
+-- (2.4.4.11), which makes a section of 4,096 bytes. It is not the greatest that the field's 12 bits tell (longest)
 abbrev pub limit : ℕ
-limit = longest
+limit = 4093
 
 -- what a demand says of a section's header: that section_syntax_indicator is set, where it is demanded. ISO/IEC 13818-1, 2.4.4.11, gives
 -- a section without it neither bytes 3 to 7 nor a CRC

@@ -43,8 +43,8 @@ pub struct Demands {
 }
 
 impl Demands {
-    // The greatest section_length that is written, and that a checked reading takes.
-    pub const LIMIT: usize = LengthField::LONGEST;
+    // The greatest section_length that is written, and that a checked reading takes; the field would hold more.
+    pub const LIMIT: usize = 4093;
 
     // The plain reading takes either indicator, and every length that the field holds.
     pub fn plain() -> Demands
@@ -126,8 +126,9 @@ pub fn open(s: &[u8], t: Table, demands: Demands) -> Reached
     if total < least {
         return refused(Refusal::WRONG_LENGTH, length, s.len());
     }
-    if s.len() < total {
-        return refused(Refusal::WRONG_LENGTH, length, s.len());
+    let lent = s.len();
+    if lent < total {
+        return refused(Refusal::WRONG_LENGTH, length, lent);
     }
     if demands.most < length {
         return refused(Refusal::SECTION_TOO_LONG, length, demands.most);

@@ -1,5 +1,5 @@
--- Which numbers a reading of the section can answer at all: the plain one 1 to 19, the checked one also 20 and 38; 28 only where
--- the limit is below what section_length tells. So neither 27 nor, plainly, 28 and 38.
+-- Which numbers a reading of the section can answer at all: the plain one 1 to 19, the checked one also 20, 28 and 38. So neither 27
+-- nor, plainly, 28 and 38.
 -- Assumes nothing.
 use Prim.Native.Nat.{ℕ, zero, suc}
 use mathlib.Core.Path.{_≡_, refl}
@@ -11,8 +11,9 @@ use Rattle.wire.specs.Verdict.{bad}
 use Rattle.wire.proofs.Among.{Among, among-fine, among-row, among-then, among-more, Never, among-never, block-listed, last-listed}
 use Rattle.link.proofs.Listed.{bodyReading, body-listed}
 use Rattle.frame.specs.Reading.{payloadEnd}
-use Rattle.frame.proofs.Listed.{plain-among, checked-among, limited-among}
+use Rattle.frame.proofs.Listed.{plain-among, checked-among}
 use Rattle.frame.proofs.Indicator.{Unindicated, unindicated-iff}
+use Rattle.frame.proofs.Limit.{AboveLimit, above-iff}
 use Rattle.rct.specs.Syntax.{headLength, rct}
 use Rattle.rct.specs.Reading.{bodyIn, countAt, loopPlace, entryVerdict, linksVerdict, payloadVerdict, plain, numberRow, checked}
 
@@ -24,13 +25,9 @@ entryReading = entryCut ∷ linkTooLong ∷ bodyReading
 abbrev pub plainReading : List ℕ
 plainReading = tooShort ∷ notRct ∷ wrongLength ∷ (entryReading ++ loopCut ∷ loopTooLong ∷ sectionSlack ∷ [])
 
--- to 20, and 38
+-- to 20, 28 and 38
 abbrev pub checkedReading : List ℕ
-checkedReading = plainReading ++ wrongCrc ∷ noSyntaxIndicator ∷ []
-
--- and 28, by a limit
-abbrev pub limitedReading : List ℕ
-limitedReading = checkedReading ++ sectionTooLong ∷ []
+checkedReading = plainReading ++ wrongCrc ∷ sectionTooLong ∷ noSyntaxIndicator ∷ []
 
 -- ---- what stands behind the opening
 
@@ -61,17 +58,16 @@ plain-never-28 xs = among-never plainReading (plain xs) sectionTooLong (plain-li
 pub plain-never-38 : (xs : List ℕ) → Never noSyntaxIndicator (plain xs)
 plain-never-38 xs = among-never plainReading (plain xs) noSyntaxIndicator (plain-listed xs) refl
 
--- the limit is not below the field's, so the checked reading answers 38 and 20 besides
 pub checked-listed : (xs : List ℕ) → Among checkedReading (checked xs)
 checked-listed = checked-among rct payloadVerdict plainReading payload-listed checkedReading refl refl refl
-
--- whatever the limit is
-pub checked-limited : (xs : List ℕ) → Among limitedReading (checked xs)
-checked-limited = limited-among rct payloadVerdict plainReading payload-listed limitedReading refl refl refl
 
 -- 38 exactly if a section of the table is there and its indicator is not set, whatever else is wrong
 pub checked-unindicated : (xs : List ℕ) (f g : ℕ) → (checked xs ≡ bad noSyntaxIndicator f g) ↔ Unindicated rct xs f g
 checked-unindicated xs = unindicated-iff rct payloadVerdict xs refl (among-never plainReading _ noSyntaxIndicator (payload-listed xs) refl)
+
+-- 28 exactly if a whole section of the table is there, its indicator is set and its section_length is above the limit, whatever else is wrong
+pub checked-above : (xs : List ℕ) (f g : ℕ) → (checked xs ≡ bad sectionTooLong f g) ↔ AboveLimit rct xs f g
+checked-above xs = above-iff rct payloadVerdict xs refl (among-never plainReading _ sectionTooLong (payload-listed xs) refl)
 
 -- ---- no such link
 

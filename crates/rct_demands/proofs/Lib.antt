@@ -3,6 +3,7 @@ pub mod TwoDesks
 pub mod ReadBack
 pub mod Rebuilt
 pub mod Indicator
+pub mod Limit
 -- what they stand on
 pub mod Answers
 pub mod Edits

@@ -1,12 +1,12 @@
 -- Document 01's order of the calls' refusals, in its own words: of each refusal exactly when it is answered, and what holds
 -- then of all that stands before it, so that the answer to every input is settled. "Appending and replacing: 1..20, then 30 or
--- 21, 23, 22, 24, 25, 28, 27, 29. Making: 22, 25, 28, 29." 27 is no answer (Listed); the order of 23, 22, 24, 25 among
--- themselves is link_draft's (Order).
+-- 21, 23, 22, 24, 25, 28, 27, 29. Making: 22, 25, 28, 29." By request 105 the checked reading answers 28 too, of the section that is
+-- there. 27 is no answer (Listed); the order of 23, 22, 24, 25 among themselves is link_draft's (Order).
 -- Assumes nothing.
 use Prim.Native.Nat.{ℕ, _≤_, _<_}
 use mathlib.Core.Path.{_≡_, refl, sym}
-use mathlib.Core.Logic.{_↔_}
-use mathlib.Core.Bool.{true}
+use mathlib.Core.Logic.{_↔_, _⊎_, inl}
+use mathlib.Core.Bool.{true, false}
 use mathlib.Core.List.{List}
 use native.Mathlib.Omega.{arith}
 use lib.ListN.{length}
@@ -21,14 +21,15 @@ use Rattle.link.specs.Records.{linkOf}
 use Rattle.link.specs.declared.LinkInfo.{LinkInfo}
 use Rattle.link_draft.specs.Checks.{checkLink}
 use Rattle.link_draft.proofs.Listed.{linkChecks, check-listed}
-use Rattle.rct.specs.Syntax.{linkCountPlace, Section}
+use Rattle.frame.proofs.Limit.{AboveLimit}
+use Rattle.rct.specs.Syntax.{linkCountPlace, rct, Section}
 use Rattle.rct.specs.Reading.{countAt, sectionAt, numberRow, checked}
 use Rattle.rct.proofs.Checked.{number-passed, number-pass}
-use Rattle.rct.proofs.Listed.{checkedReading, number-listed}
+use Rattle.rct.proofs.Listed.{checkedReading, number-listed, checked-above}
 use Rattle.rct_edit.specs.Edit.{mostLinks, withLink, withNext, countRow}
 use Rattle.rct_edit.specs.Calls.{appending, replacing}
 use Rattle.rct_edit.proofs.BodyRow.{replacing-verdict, appending-verdict}
-use Rattle.rct_edit.proofs.Listed.{count-listed}
+use Rattle.rct_edit.proofs.Listed.{roomNumbers, count-listed}
 use Rattle.rct_edit.proofs.Rows.{TooLong, TooLarge, Accepted, LinkRefused, Ready, OwnRow, reading-iff, own-iff, link-iff, edit-long, edit-large, edit-fine}
 
 -- ---- replacing link k
@@ -44,8 +45,8 @@ module _ (xs : List ℕ) (k : ℕ) (t : List ℕ) (i : LinkInfo) where
   number-row : OwnRow (numberRow xs k) There noSuchNumber
   number-row = record { passed = number-passed xs k; pass = number-pass xs k; numbers = number-listed xs k; apart = refl }
 
-  -- 1 to 20 and 38: exactly if the checked reading answers it, whatever else is wrong
-  pub replacing-reading : (n f g : ℕ) → listed n checkedReading ≡ true → (replacing xs k t i .verdict ≡ bad n f g) ↔ (checked xs ≡ bad n f g)
+  -- 1 to 20 and 38, which the room does not answer: exactly if the checked reading answers it, whatever else is wrong
+  pub replacing-reading : (n f g : ℕ) → listed n checkedReading ≡ true → listed n roomNumbers ≡ false → (replacing xs k t i .verdict ≡ bad n f g) ↔ (checked xs ≡ bad n f g)
   replacing-reading = rw (replacing-verdict xs k t i) (reading-iff xs _ _ replacement There noSuchNumber number-row (check-listed t i))
 
   -- 21 (f, g): the section is fine and has no link k, whatever the link that is handed in
@@ -70,9 +71,13 @@ module _ (xs : List ℕ) (k : ℕ) (t : List ℕ) (i : LinkInfo) where
   pub replacing-link : (n f g : ℕ) → listed n linkChecks ≡ true → (replacing xs k t i .verdict ≡ bad n f g) ↔ LinkRefused xs There (checkLink t i) n f g
   replacing-link = rw (replacing-verdict xs k t i) (link-iff xs _ _ replacement There noSuchNumber number-row (check-listed t i))
 
-  -- 28 (f, g): all of that is fine, and the new section_length is above the limit, whatever the room
-  pub replacing-long : (f g : ℕ) → (replacing xs k t i .verdict ≡ bad sectionTooLong f g) ↔ TooLong (Ready xs There (checkLink t i)) replacement f g
+  -- 28 (f, g): the checked reading answers it, or all of that is fine and the new section_length is above the limit, whatever the room
+  pub replacing-long : (f g : ℕ) → (replacing xs k t i .verdict ≡ bad sectionTooLong f g) ↔ ((checked xs ≡ bad sectionTooLong f g) ⊎ TooLong (Ready xs There (checkLink t i)) replacement f g)
   replacing-long = rw (replacing-verdict xs k t i) (edit-long xs _ _ replacement There noSuchNumber number-row (check-listed t i))
+
+  -- so a section above the limit is not edited: 28 with its own length, whatever is handed in
+  pub replacing-above : (f g : ℕ) → AboveLimit rct xs f g → replacing xs k t i .verdict ≡ bad sectionTooLong f g
+  replacing-above f g a = replacing-long f g .1 (inl (checked-above xs f g .1 a))
 
   -- 29 (f, g): it is within the limit too, and the room is smaller than the new section
   pub replacing-large : (f g : ℕ) → (replacing xs k t i .verdict ≡ bad noRoom f g) ↔ TooLarge (Ready xs There (checkLink t i)) replacement (length xs) f g
@@ -95,8 +100,8 @@ module _ (xs : List ℕ) (t : List ℕ) (i : LinkInfo) where
   count-row : OwnRow (countRow xs) NotFull noMoreLinks
   count-row = record { passed = passed-leb mostLinks (countAt xs) _ _ _; pass = pass-leb mostLinks (countAt xs) _ _ _; numbers = count-listed xs; apart = refl }
 
-  -- 1 to 20 and 38: exactly if the checked reading answers it, whatever else is wrong
-  pub appending-reading : (n f g : ℕ) → listed n checkedReading ≡ true → (appending xs t i .verdict ≡ bad n f g) ↔ (checked xs ≡ bad n f g)
+  -- 1 to 20 and 38, which the room does not answer: exactly if the checked reading answers it, whatever else is wrong
+  pub appending-reading : (n f g : ℕ) → listed n checkedReading ≡ true → listed n roomNumbers ≡ false → (appending xs t i .verdict ≡ bad n f g) ↔ (checked xs ≡ bad n f g)
   appending-reading = rw (appending-verdict xs t i) (reading-iff xs _ _ extension NotFull noMoreLinks count-row (check-listed t i))
 
   -- 30 (f, g): the section is fine and has 255 links, whatever the link that is handed in
@@ -121,9 +126,13 @@ module _ (xs : List ℕ) (t : List ℕ) (i : LinkInfo) where
   pub appending-link : (n f g : ℕ) → listed n linkChecks ≡ true → (appending xs t i .verdict ≡ bad n f g) ↔ LinkRefused xs NotFull (checkLink t i) n f g
   appending-link = rw (appending-verdict xs t i) (link-iff xs _ _ extension NotFull noMoreLinks count-row (check-listed t i))
 
-  -- 28 (f, g): all of that is fine, and the new section_length is above the limit, whatever the room
-  pub appending-long : (f g : ℕ) → (appending xs t i .verdict ≡ bad sectionTooLong f g) ↔ TooLong (Ready xs NotFull (checkLink t i)) extension f g
+  -- 28 (f, g): the checked reading answers it, or all of that is fine and the new section_length is above the limit, whatever the room
+  pub appending-long : (f g : ℕ) → (appending xs t i .verdict ≡ bad sectionTooLong f g) ↔ ((checked xs ≡ bad sectionTooLong f g) ⊎ TooLong (Ready xs NotFull (checkLink t i)) extension f g)
   appending-long = rw (appending-verdict xs t i) (edit-long xs _ _ extension NotFull noMoreLinks count-row (check-listed t i))
+
+  -- so a section above the limit is not edited: 28 with its own length, whatever is handed in
+  pub appending-above : (f g : ℕ) → AboveLimit rct xs f g → appending xs t i .verdict ≡ bad sectionTooLong f g
+  appending-above f g a = appending-long f g .1 (inl (checked-above xs f g .1 a))
 
   -- 29 (f, g): it is within the limit too, and the room is smaller than the new section
   pub appending-large : (f g : ℕ) → (appending xs t i .verdict ≡ bad noRoom f g) ↔ TooLarge (Ready xs NotFull (checkLink t i)) extension (length xs) f g

@@ -3,7 +3,7 @@
 -- Assumes nothing.
 use Prim.Native.Nat.{ℕ, _≤_, _<_}
 use mathlib.Core.Path.{_≡_, refl, sym, ap, _∙_}
-use mathlib.Core.Logic.{_↔_}
+use mathlib.Core.Logic.{_↔_, _⊎_, inl, inr, ⊎-elim}
 use mathlib.Core.Bool.{true, false}
 use mathlib.Core.List.{List, [], _∷_, _++_}
 use lib.ListN.{length}
@@ -11,7 +11,7 @@ use Rattle.wire.specs.Refusals.{sectionTooLong, noRoom}
 use Rattle.wire.specs.Verdict.{bad, _▷_}
 use Rattle.wire.specs.declared.verdict.Verdict.{Verdict}
 use Rattle.wire.specs.declared.verdict.Verdict.the-variants.{Fine}
-use Rattle.wire.proofs.Among.{listed, listed-more, Among, among-row, Never, among-never, never-then, never-past, never-behind, allApart, listed-apart}
+use Rattle.wire.proofs.Among.{listed, listed-more, Among, among-row, Never, among-never, never-then, never-past, never-behind, either-row, allApart, listed-apart}
 use Rattle.wire.proofs.Verdicts.{then-fine, fine-then, go-on, stop, then-assoc, row-says, passed-ltb, pass-ltb, broken-ltb, break-ltb}
 use Rattle.link_draft.proofs.Listed.{linkChecks}
 use Rattle.frame.specs.Syntax.{limit}
@@ -138,11 +138,11 @@ module _ (xs : List ℕ) (row v : Verdict) (s : Section) (P : Type 0) (m : ℕ) 
   room-never : (n : ℕ) → listed n roomNumbers ≡ false → Never n room
   room-never n h = among-never roomNumbers _ n (room-listed _ _) h
 
-  pub reading-iff : (n f g : ℕ) → listed n checkedReading ≡ true → (rows ≡ bad n f g) ↔ (checked xs ≡ bad n f g)
-  reading-iff n f g h = (
+  -- of a number that the room does not answer too
+  pub reading-iff : (n f g : ℕ) → listed n checkedReading ≡ true → listed n roomNumbers ≡ false → (rows ≡ bad n f g) ↔ (checked xs ≡ bad n f g)
+  reading-iff n f g h a = (
     never-behind n f g (checked xs) _
-        (never-then n row _ (own-never n (listed-more checkedReading others n refl h))
-        (never-then n v _ (link-never n (listed-apart checkedReading linkChecks n refl h)) (room-never n (listed-apart checkedReading roomNumbers n refl h)))),
+        (never-then n row _ (own-never n (listed-more checkedReading others n refl h)) (never-then n v _ (link-never n (listed-apart checkedReading linkChecks n refl h)) (room-never n a))),
     stop (checked xs) _ n f g,
   )
 
@@ -181,17 +181,28 @@ module _ (xs : List ℕ) (row v : Verdict) (s : Section) (P : Type 0) (m : ℕ) 
   unfolding before
   ready-back t = fine-then (checked xs) _ (t .section) (fine-then row v (o .pass (t .own)) (t .link))
 
-  before-never : (n : ℕ) → listed n roomNumbers ≡ true → Never n before
-  unfolding before
-  before-never n h =
-      never-then n (checked xs) _ (reading-never n (listed-apart roomNumbers checkedReading n refl h))
-      (never-then n row v (own-never n (listed-more roomNumbers others n refl h)) (link-never n (listed-apart roomNumbers linkChecks n refl h)))
+  -- behind the checked reading no row before the room answers its numbers
+  behind-never : (n : ℕ) → listed n roomNumbers ≡ true → Never n (row ▷ v)
+  behind-never n h = never-then n row v (own-never n (listed-more roomNumbers others n refl h)) (link-never n (listed-apart roomNumbers linkChecks n refl h))
 
-  pub edit-long : (f g : ℕ) → (rows ≡ bad sectionTooLong f g) ↔ TooLong (Ready xs P v) s f g
-  edit-long = rw split (long-iff before (Ready xs P v) ready ready-back s (length xs) (before-never sectionTooLong refl))
+  -- of a section that passes
+  new-long : checked xs ≡ Fine → (f g : ℕ) → (before ▷ room ≡ bad sectionTooLong f g) ↔ TooLong (Ready xs P v) s f g
+  unfolding before
+  new-long c = long-iff before (Ready xs P v) ready ready-back s (length xs) (λ f g e. behind-never sectionTooLong refl f g (sym (go-on (checked xs) (row ▷ v) c) ∙ e))
+
+  -- the section that is there is above the limit, or the new one is
+  pub edit-long : (f g : ℕ) → (rows ≡ bad sectionTooLong f g) ↔ ((checked xs ≡ bad sectionTooLong f g) ⊎ TooLong (Ready xs P v) s f g)
+  edit-long f g = (to, from)
+    where
+      to : rows ≡ bad sectionTooLong f g → (checked xs ≡ bad sectionTooLong f g) ⊎ TooLong (Ready xs P v) s f g
+      to e = ⊎-elim inl (λ w. inr (new-long (w .0) f g .0 (sym split ∙ e))) (either-row sectionTooLong f g (checked xs) _ e)
+
+      from : (checked xs ≡ bad sectionTooLong f g) ⊎ TooLong (Ready xs P v) s f g → rows ≡ bad sectionTooLong f g
+      from = ⊎-elim (stop (checked xs) _ sectionTooLong f g) (λ t. split ∙ new-long (t .before .section) f g .1 t)
 
   pub edit-large : (f g : ℕ) → (rows ≡ bad noRoom f g) ↔ TooLarge (Ready xs P v) s (length xs) f g
-  edit-large = rw split (large-iff before (Ready xs P v) ready ready-back s (length xs) (before-never noRoom refl))
+  unfolding before
+  edit-large = rw split (large-iff before (Ready xs P v) ready ready-back s (length xs) (never-then noRoom (checked xs) (row ▷ v) (reading-never noRoom refl) (behind-never noRoom refl)))
 
   pub edit-fine : (rows ≡ Fine) ↔ Accepted (Ready xs P v) s (length xs)
   edit-fine = rw split (fine-iff before (Ready xs P v) ready ready-back s (length xs))

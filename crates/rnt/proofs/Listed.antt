@@ -1,4 +1,4 @@
--- Which numbers a reading of the section can answer at all: the plain one 1, 40, 3 and 41 to 46, the checked one also 20 and 38; 28 only where the limit is below what section_length tells. By number 21 too.
+-- Which numbers a reading of the section can answer at all: the plain one 1, 40, 3 and 41 to 46, the checked one also 20, 28 and 38. By number 21 too.
 -- Assumes nothing.
 use Prim.Native.Nat.{ℕ}
 use mathlib.Core.Path.{_≡_, refl}
@@ -10,8 +10,9 @@ use Rattle.wire.specs.Verdict.{bad}
 use Rattle.wire.proofs.Among.{Among, among-row, among-then, among-more, Never, among-never, block-listed}
 use Rattle.wire.proofs.RunLaws.{each-listed}
 use Rattle.frame.specs.Reading.{payloadEnd}
-use Rattle.frame.proofs.Listed.{plain-among, checked-among, limited-among}
+use Rattle.frame.proofs.Listed.{plain-among, checked-among}
 use Rattle.frame.proofs.Indicator.{Unindicated, unindicated-iff}
+use Rattle.frame.proofs.Limit.{AboveLimit, above-iff}
 use Rattle.rnt.specs.Syntax.{rnt}
 use Rattle.rnt.specs.Reading.{providerPlaces, authorityPlaces, authorityVerdict, providerHead, providerVerdict, commonRow, payloadVerdict, plain, checked, providerRows, authorityRows}
 use Rattle.rnt.proofs.Names.{named-listed}
@@ -27,11 +28,7 @@ abbrev pub plainReading : List ℕ
 plainReading = tooShort ∷ notRnt ∷ wrongLength ∷ commonTooLong ∷ (headReading ++ authorityReading)
 
 abbrev pub checkedReading : List ℕ
-checkedReading = plainReading ++ wrongCrc ∷ noSyntaxIndicator ∷ []
-
--- and 28, by a limit
-abbrev pub limitedReading : List ℕ
-limitedReading = checkedReading ++ sectionTooLong ∷ []
+checkedReading = plainReading ++ wrongCrc ∷ sectionTooLong ∷ noSyntaxIndicator ∷ []
 
 abbrev pub numberedReading : List ℕ
 numberedReading = plainReading ++ noSuchNumber ∷ []
@@ -67,17 +64,16 @@ plain-never-28 xs = among-never plainReading (plain xs) sectionTooLong (plain-li
 pub plain-never-38 : (xs : List ℕ) → Never noSyntaxIndicator (plain xs)
 plain-never-38 xs = among-never plainReading (plain xs) noSyntaxIndicator (plain-listed xs) refl
 
--- the limit is not below the field's, so the checked reading answers 38 and 20 besides
 pub checked-listed : (xs : List ℕ) → Among checkedReading (checked xs)
 checked-listed = checked-among rnt payloadVerdict plainReading payload-listed checkedReading refl refl refl
-
--- whatever the limit is
-pub checked-limited : (xs : List ℕ) → Among limitedReading (checked xs)
-checked-limited = limited-among rnt payloadVerdict plainReading payload-listed limitedReading refl refl refl
 
 -- 38 exactly if a section of the table is there and its indicator is not set, whatever else is wrong
 pub checked-unindicated : (xs : List ℕ) (f g : ℕ) → (checked xs ≡ bad noSyntaxIndicator f g) ↔ Unindicated rnt xs f g
 checked-unindicated xs = unindicated-iff rnt payloadVerdict xs refl (among-never plainReading _ noSyntaxIndicator (payload-listed xs) refl)
+
+-- 28 exactly if a whole section of the table is there, its indicator is set and its section_length is above the limit, whatever else is wrong
+pub checked-above : (xs : List ℕ) (f g : ℕ) → (checked xs ≡ bad sectionTooLong f g) ↔ AboveLimit rnt xs f g
+checked-above xs = above-iff rnt payloadVerdict xs refl (among-never plainReading _ sectionTooLong (payload-listed xs) refl)
 
 -- ---- by number
 

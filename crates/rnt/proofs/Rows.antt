@@ -1,16 +1,17 @@
--- Sections byte by byte: one that is accepted, with its records, and one for each row of request 101 that refuses, with the numbers and figures as the request gives them; then request 102's, of a length that would be refused behind it.
+-- Sections byte by byte: one that is accepted, with its records, and one for each row of request 101 that refuses, with the numbers and figures as the request gives them; request 102's, of a length that would be refused behind it; and request 105's, right behind 3, whatever stands behind that.
 -- Assumes nothing.
-use Prim.Native.Nat.{ℕ}
+use Prim.Native.Nat.{ℕ, _+_, _/_, _%_}
 use mathlib.Core.Path.{_≡_, refl}
 use mathlib.Core.Bool.{true}
 use mathlib.Core.List.{List, [], _∷_}
+use lib.ListN.{take, replicate}
 use Rattle.wire.specs.Lengths.{longRow, blockRows}
 use Rattle.wire.specs.Runs.{placesTo}
 use Rattle.wire.specs.Verdict.{bad, refuse, _▷_}
 use Rattle.wire.specs.declared.verdict.Verdict.the-variants.{Fine}
-use Rattle.frame.specs.Reading.{opened, readingBy, checkedBy}
+use Rattle.frame.specs.Reading.{checkedDemands, opened, readingBy, checkedBy}
 use Rattle.rnt.specs.Syntax.{Section}
-use Rattle.rnt.specs.Reading.{providerAt, sectionAt, namedVerdict, providerHead, providerVerdict, commonRow, payloadVerdict, plain, checked}
+use Rattle.rnt.specs.Reading.{providerAt, sectionAt, namedVerdict, providerHead, providerVerdict, commonRow, payloadVerdict, reading, plain, checked}
 
 -- two common descriptor bytes, and a provider with a name of two bytes, one descriptor byte and one authority
 abbrev pub sample : List ℕ
@@ -47,6 +48,11 @@ sampleSection =
           ∷ [];
     }
 
+-- no providers, and n bytes of common descriptors, zeros; the CRC is zeros too
+abbrev noProviders : ℕ → List ℕ
+noProviders n =
+    0x79 ∷ (0xF0 + (n + 12) / 256) ∷ ((n + 12) % 256) ∷ 0x00 ∷ 0x01 ∷ 0xC1 ∷ 0x00 ∷ 0x00 ∷ 0x00 ∷ (0xF0 + n / 256) ∷ (n % 256) ∷ replicate (n + 4) 0
+
 pub record Rows : Type 0 where
   pub fine : plain sample ≡ Fine
   pub records : sectionAt sample ≡ sampleSection
@@ -56,6 +62,13 @@ pub record Rows : Type 0 where
   pub unindicated : checked (0x79 ∷ 0x70 ∷ 0x0B ∷ 0x00 ∷ 0x01 ∷ 0xC1 ∷ 0x00 ∷ 0x00 ∷ 0x00 ∷ 0xF0 ∷ 0x00 ∷ 0x00 ∷ 0x00 ∷ 0x00 ∷ 0x00 ∷ []) ≡ bad 38 0x70 0
   pub small : plain (0x79 ∷ 0xF0 ∷ 0x0B ∷ 0x00 ∷ 0x01 ∷ 0xC1 ∷ 0x00 ∷ 0x00 ∷ 0x00 ∷ 0xF0 ∷ 0x00 ∷ 0x00 ∷ 0x00 ∷ 0x00 ∷ 0x00 ∷ []) ≡ bad 3 11 15
   pub cut : plain (0x79 ∷ 0xF0 ∷ 0x0D ∷ 0x00 ∷ 0x01 ∷ 0xC1 ∷ 0x00 ∷ 0x00 ∷ 0x00 ∷ 0xF0 ∷ 0x00 ∷ 0x00 ∷ 0x00 ∷ 0x00 ∷ 0x00 ∷ []) ≡ bad 3 13 15
+  pub at-limit : reading checkedDemands (noProviders 4081) ≡ Fine
+  pub above-plainly : plain (noProviders 4082) ≡ Fine
+  pub above : checked (noProviders 4082) ≡ bad 28 4094 4093
+  pub longest-plainly : plain (noProviders 4083) ≡ Fine
+  pub longest : checked (noProviders 4083) ≡ bad 28 4095 4093
+  pub above-cut : checked (take 4097 (noProviders 4083)) ≡ bad 3 4095 4097
+  pub above-filled : checked (0x79 ∷ 0xFF ∷ 0xFE ∷ replicate 4094 0xFF) ≡ bad 28 4094 4093
   pub common : plain (0x79 ∷ 0xF0 ∷ 0x0C ∷ 0x00 ∷ 0x01 ∷ 0xC1 ∷ 0x00 ∷ 0x00 ∷ 0x00 ∷ 0xF0 ∷ 0x01 ∷ 0x00 ∷ 0x00 ∷ 0x00 ∷ 0x00 ∷ []) ≡ bad 41 1 0
   pub provider-cut : plain (0x79 ∷ 0xF0 ∷ 0x0D ∷ 0x00 ∷ 0x01 ∷ 0xC1 ∷ 0x00 ∷ 0x00 ∷ 0x00 ∷ 0xF0 ∷ 0x00 ∷ 0xF0 ∷ 0x00 ∷ 0x00 ∷ 0x00 ∷ 0x00 ∷ []) ≡ bad 42 13 12
   pub provider-long : plain (0x79 ∷ 0xF0 ∷ 0x0F ∷ 0x00 ∷ 0x01 ∷ 0xC1 ∷ 0x00 ∷ 0x00 ∷ 0x00 ∷ 0xF0 ∷ 0x00 ∷ 0xF0 ∷ 0x02 ∷ 0x00 ∷ 0x00 ∷ 0x00 ∷ 0x00 ∷ 0x00 ∷ []) ≡ bad 43 2 1
@@ -79,6 +92,13 @@ rows =
       unindicated = refl;
       small = refl;
       cut = refl;
+      at-limit = refl;
+      above-plainly = refl;
+      above = refl;
+      longest-plainly = refl;
+      longest = refl;
+      above-cut = refl;
+      above-filled = refl;
       common = refl;
       provider-cut = refl;
       provider-long = refl;

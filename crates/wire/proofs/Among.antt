@@ -2,6 +2,7 @@
 -- Assumes nothing.
 use Prim.Native.Nat.{ℕ}
 use mathlib.Core.Path.{_≡_, refl, sym, ap, _∙_}
+use mathlib.Core.Logic.{_⊎_, inl, inr}
 use mathlib.Core.Bool.{Bool, true, false}
 use mathlib.Core.List.{List, [], _∷_}
 use native.Mathlib.Omega.{arith}
@@ -102,6 +103,12 @@ module _ (n f g : ℕ) where
   unfolding _▷_
   never-behind Fine w p e = absurd (p f g e)
   never-behind (Refused r) w p e = e
+
+  -- of rows that both may answer it: the first does, or is passed and the second does
+  pub either-row : (v w : Verdict) → v ▷ w ≡ bad n f g → (v ≡ bad n f g) ⊎ ((v ≡ Fine) × (w ≡ bad n f g))
+  unfolding _▷_
+  either-row Fine w e = inr (refl, e)
+  either-row (Refused r) w e = inl e
 
 -- two lists that share no number
 abbrev pub allApart : List ℕ → List ℕ → Bool

@@ -12,13 +12,14 @@ use Rattle.wire.specs.Lengths.{longest}
 use Rattle.wire.specs.Refusals.{sectionTooLong}
 use Rattle.wire.specs.Verdict.{bad}
 use Rattle.wire.specs.declared.verdict.Verdict.{Verdict}
-use Rattle.wire.proofs.Among.{listed, Never, row-never, never-past, never-behind}
-use Rattle.wire.proofs.Verdicts.{stop, passed-ltb, passed-eqb, broken-ltb, due-passed, row-says}
+use Rattle.wire.proofs.Among.{listed, Never, row-never, never-past}
+use Rattle.wire.proofs.Verdicts.{passed-ltb, passed-eqb, broken-ltb, due-passed, row-says}
 use Rattle.section_header.specs.Reading.{syntaxIndicator, headerAt}
 use Rattle.frame.specs.Syntax.{uncounted, limit, least}
-use Rattle.frame.specs.Reading.{declared, totalOf, checkedDemands, plainDemands, opened, crcRow, readingBy, checkedBy}
+use Rattle.frame.specs.Reading.{declared, totalOf, checkedDemands, plainDemands, opened, checkedBy}
 use Rattle.frame.specs.declared.Table.{Table}
 use Rattle.frame.proofs.Opening.{opened-long}
+use Rattle.frame.proofs.Readings.{opening-answers}
 
 -- ISO/IEC 13818-1's two numbers, as it has them, and what the 12 bits of the field tell
 pub record Limits : Type 0 where
@@ -45,16 +46,18 @@ module _ (t : Table) (rows : List ℕ → Verdict) (xs : List ℕ) where
   -- of a table whose own numbers have no 28
   pub above-iff : listed sectionTooLong (t .other ∷ []) ≡ false → Never sectionTooLong (rows xs) → (f g : ℕ)
       → (checkedBy t rows xs ≡ bad sectionTooLong f g) ↔ AboveLimit t xs f g
-  unfolding checkedBy readingBy opened crcRow
+  unfolding opened
   above-iff other own f g = (to, from)
     where
       n : ℕ
       n = sectionTooLong
 
+      answers : (checkedBy t rows xs ≡ bad n f g) ↔ (opened t checkedDemands xs ≡ bad n f g)
+      answers = opening-answers t rows xs n f g own refl
+
       to : checkedBy t rows xs ≡ bad n f g → AboveLimit t xs f g
       to e =
-          let front = never-behind n f g (opened t checkedDemands xs) _ own (never-behind n f g _ _ (row-never n _ _ _ _ refl) e) in
-          let short = never-past n f g _ _ (row-never n _ _ _ _ refl) front in
+          let short = never-past n f g _ _ (row-never n _ _ _ _ refl) (answers .0 e) in
           let id = never-past n f g _ _ (row-never n (t .other) _ _ _ other) (short .1) in
           let set = never-past n f g _ _ (row-never n _ _ _ _ refl) (id .1) in
           let small = never-past n f g _ _ (row-never n _ _ _ _ refl) (set .1) in
@@ -72,5 +75,5 @@ module _ (t : Table) (rows : List ℕ → Verdict) (xs : List ℕ) where
       from : AboveLimit t xs f g → checkedBy t rows xs ≡ bad n f g
       from u =
           let set : not (syntaxIndicator (getD xs 1 0)) ≡ false = rw (u .indicated) in
-          rw (u .figures .0, u .figures .1)
-          (stop _ _ _ _ _ (stop _ _ _ _ _ (opened-long t checkedDemands xs (omega (arith, u .large, u .within)) (u .id-is) set (u .large) (u .within) (u .above))))
+          answers .1
+          (rw (u .figures .0, u .figures .1) (opened-long t checkedDemands xs (omega (arith, u .large, u .within)) (u .id-is) set (u .large) (u .within) (u .above)))

@@ -5,13 +5,16 @@ use mathlib.Core.Path.{_≡_, refl, sym, ap, _∙_}
 use mathlib.Core.Logic.{_↔_}
 use Prim.Native.Nat.{ℕ, _≤_}
 use native.Mathlib.Omega.{arith}
-use mathlib.Core.Bool.{true}
-use mathlib.Core.List.{List}
+use mathlib.Core.Bool.{true, false}
+use mathlib.Core.List.{List, [], _∷_}
 use Rattle.wire.specs.Lengths.{longest}
+use Rattle.wire.specs.Refusals.{wrongCrc}
+use Rattle.wire.specs.Verdict.{bad}
 use Rattle.wire.specs.declared.verdict.Refusal.{Refusal}
 use Rattle.wire.specs.declared.verdict.Verdict.{Verdict}
 use Rattle.wire.specs.declared.verdict.Verdict.the-variants.{Fine, Refused}
-use Rattle.wire.proofs.Verdicts.{then-fine, fine-then, go-on, refused-then}
+use Rattle.wire.proofs.Among.{listed, Never, row-never, never-behind}
+use Rattle.wire.proofs.Verdicts.{then-fine, fine-then, go-on, stop, refused-then}
 use Rattle.section_header.specs.Reading.{headerAt}
 use Rattle.frame.specs.Syntax.{crcLength, limit, least, Indicated}
 use Rattle.frame.specs.Reading.{declared, payloadEnd, plainDemands, checkedDemands, opened, stored, computed, crcRow, readingBy, checkedBy}
@@ -69,6 +72,12 @@ module _ (t : Table) (rows : List ℕ → Verdict) where
     checked-said e v four r is said =
         let o = reading-opened checkedDemands xs r in
         checked-crc r ∙ sym (said ∙ ap (λ k. crcVerdict xs k) is ∙ crc-room xs (payloadEnd xs) (omega (arith, four, o .large, o .within)))
+
+    -- a number that neither the table's own rows nor the CRC's has: exactly if the opening answers it, whatever else is wrong
+    pub opening-answers : (n f g : ℕ) → Never n (rows xs) → listed n (wrongCrc ∷ []) ≡ false → (checkedBy t rows xs ≡ bad n f g) ↔ (opened t checkedDemands xs ≡ bad n f g)
+    unfolding checkedBy readingBy crcRow
+    opening-answers n f g own crc =
+        (λ e. never-behind n f g (opened t checkedDemands xs) _ own (never-behind n f g _ _ (row-never n wrongCrc _ _ _ crc) e), λ e. stop _ _ n f g (stop _ _ n f g e))
 
   -- ---- against the plain reading
 

@@ -20,7 +20,7 @@ use Rattle.frame.proofs.ending.seal.Kinds as seal-kinds
 use Rattle.frame.proofs.ending.seal.Reads as seal-reads
 
 pub least-one : One least-kinds.ps least-kinds.r least-reads.Asked least-reads.Learnt
-least-one = record { total = λ κs a. tt; one = λ κs a x y v w p q. (both (p .0) (q .0), refl) }
+least-one = record { total = λ κs a. tt; one = λ κs a x y v w p q. (both p q, refl) }
 
 pub plain-one : One plain-kinds.ps plain-kinds.r plain-reads.Asked plain-reads.Learnt
 plain-one = record { total = λ κs a. tt; one = λ κs a x y v w p q. (both p q, refl) }
@@ -29,7 +29,7 @@ pub checked-one : One checked-kinds.ps checked-kinds.r checked-reads.Asked check
 checked-one = record { total = λ κs a. tt; one = λ κs a x y v w p q. (both p q, refl) }
 
 pub total-one : One total-kinds.ps total-kinds.r total-reads.Asked total-reads.Learnt
-total-one = record { total = λ κs a. tt; one = λ κs a x y v w p q. (both (p .0) (q .0), refl) }
+total-one = record { total = λ κs a. tt; one = λ κs a x y v w p q. (both p q, refl) }
 
 pub payload-end-one : One payload-end-kinds.ps payload-end-kinds.r payload-end-reads.Asked payload-end-reads.Learnt
 payload-end-one = record { total = λ κs a. tt; one = λ κs a x y v w p q. (both p q, refl) }

@@ -1,8 +1,8 @@
 // What the sections of every table share: how they begin, how long they are, and how they end.
 ghost use mathlib.Core.Path.{_≡_};
-ghost use Prim.Native.Nat.{_+_, _-_, _≤_};
+ghost use Prim.Native.Nat.{_-_};
 ghost use Rattle.wire.specs.Verdict.{bad, reached};
-ghost use Rattle.frame.specs.Syntax.{crcLength, least, limit};
+ghost use Rattle.frame.specs.Syntax.{crcLength, least};
 ghost use Rattle.frame.specs.Reading.{totalIn, totalOf, plainDemands, checkedDemands, unindicated, opened};
 use section_header::SectionHeader;
 use wire::lengths::LengthField;
@@ -29,7 +29,7 @@ impl Table {
 
     // The bytes of the smallest section.
     pub fn least(self) -> usize
-        ensures { λ r. ⌜ (r ≡ least self) × (r ≤ 258) ⌝ }
+        ensures { λ r. ⌜ r ≡ least self ⌝ }
     {
         Table::UNCOUNTED + wire::wide(self.shortest)
     }
@@ -79,7 +79,7 @@ impl Demands {
 
 // The bytes of a whole section, of its bytes 1 and 2.
 pub fn total(hi: u8, lo: u8) -> usize
-    ensures { λ r. ⌜ (r ≡ totalIn hi lo) × (r ≤ 4098) ⌝ }
+    ensures { λ r. ⌜ r ≡ totalIn hi lo ⌝ }
 {
     let field = LengthField::of_bytes(hi, lo);
     Table::UNCOUNTED + field.length

@@ -23,7 +23,7 @@ use Rattle.rct.proofs.Checked.{checked-iff}
 use Rattle.rct_edit.specs.Edit.{Outcome}
 use Rattle.rct_edit.specs.Making.{HeaderCarried}
 use Rattle.rct_edit.specs.Calls.{making, appending, replacing}
-use Rattle.rct_edit.proofs.Calls.{replaced-verdict, appended-verdict, replaced-refused, appended-refused}
+use Rattle.rct_edit.proofs.Calls.{replaced-refused, appended-refused}
 use Rattle.rct_edit.proofs.MakingOrder.{making-unindicated}
 use Rattle.rct_demands.specs.Back.{plainRead, checkedRead}
 use Rattle.rct_demands.specs.Again.{madeAgain}
@@ -65,15 +65,11 @@ module _ (xs : List ℕ) (b : Bytes xs) (t : List ℕ) (a : LinkInfo) (bt : Byte
 
   pub appended-keeps : indicated (appending xs t a .buffer) ≡ indicated xs
   unfolding appending
-  appended-keeps =
-      let v = appended-verdict xs (checkLink t a) (linkOf t a) in
-      keeps xs (appending xs t a) _ refl (λ r e. appended-refused xs (checkLink t a) (linkOf t a) r (sym v ∙ e) .buffer) appended-indicated
+  appended-keeps = keeps xs (appending xs t a) _ refl (λ r e. appended-refused xs (checkLink t a) (linkOf t a) r e .buffer) appended-indicated
 
   pub replaced-indicated : (k : ℕ) → replacing xs k t a .verdict ≡ Fine → Both xs (replacing xs k t a)
   replaced-indicated k f = let r = replaced-reads-back xs b t a bt c k f in (checked-indicated xs (r .was), checked-indicated _ (r .section .verdict))
 
   pub replaced-keeps : (k : ℕ) → indicated (replacing xs k t a .buffer) ≡ indicated xs
   unfolding replacing
-  replaced-keeps k =
-      let v = replaced-verdict xs k (checkLink t a) (linkOf t a) in
-      keeps xs (replacing xs k t a) _ refl (λ r e. replaced-refused xs k (checkLink t a) (linkOf t a) r (sym v ∙ e) .buffer) (replaced-indicated k)
+  replaced-keeps k = keeps xs (replacing xs k t a) _ refl (λ r e. replaced-refused xs k (checkLink t a) (linkOf t a) r e .buffer) (replaced-indicated k)

@@ -6,7 +6,6 @@ use mathlib.Core.Path.{_≡_, sym, _∙_}
 use native.Mathlib.Omega.{arith}
 use mathlib.Core.List.{List}
 use Rattle.wire.specs.Lists.{Bytes}
-use Rattle.wire.specs.Verdict.{bad}
 use Rattle.wire.specs.declared.verdict.Verdict.the-variants.{Fine}
 use Rattle.link.specs.Records.{linkOf}
 use Rattle.link.specs.declared.LinkInfo.{LinkInfo}
@@ -22,7 +21,7 @@ use Rattle.rct.proofs.Checked.{checked-iff}
 use Rattle.rct_edit.specs.Edit.{Outcome}
 use Rattle.rct_edit.specs.Making.{HeaderCarried}
 use Rattle.rct_edit.specs.Calls.{making, appending, replacing}
-use Rattle.rct_edit.proofs.Calls.{replaced-verdict, appended-verdict, replaced-refused, appended-refused}
+use Rattle.rct_edit.proofs.Calls.{Unchanged, replaced-refused, appended-refused}
 use Rattle.rct_edit.proofs.Order.{replacing-above, appending-above}
 use Rattle.rct_demands.specs.Back.{checkedRead, SectionBack}
 use Rattle.rct_demands.proofs.Answers.{read-verdict, answers}
@@ -51,20 +50,15 @@ module _ (xs : List ℕ) (b : Bytes xs) (t : List ℕ) (a : LinkInfo) (bt : Byte
 
 -- ---- a section that is above the limit already
 
--- refused for what is there, which stays
-pub record NotEdited (xs : List ℕ) (o : Outcome) : Type 0 where
-  pub verdict : o .verdict ≡ bad 28 (declared xs) 4093
-  pub buffer : o .buffer ≡ xs
+-- 28 with its own section_length; the total is 0, and every byte stays
+abbrev pub NotEdited : List ℕ → Outcome → Type 0
+NotEdited xs = Unchanged (record { number = 28; first = declared xs; second = 4093 }) xs
 
 module _ (xs : List ℕ) (t : List ℕ) (a : LinkInfo) (above : AboveLimit rct xs (declared xs) 4093) where
   pub not-appended : NotEdited xs (appending xs t a)
   unfolding appending
-  not-appended =
-      let v = appending-above xs t a (declared xs) 4093 above in
-      record { verdict = v; buffer = appended-refused xs (checkLink t a) (linkOf t a) _ (sym (appended-verdict xs (checkLink t a) (linkOf t a)) ∙ v) .buffer }
+  not-appended = appended-refused xs (checkLink t a) (linkOf t a) _ (appending-above xs t a (declared xs) 4093 above)
 
   pub not-replaced : (k : ℕ) → NotEdited xs (replacing xs k t a)
   unfolding replacing
-  not-replaced k =
-      let v = replacing-above xs k t a (declared xs) 4093 above in
-      record { verdict = v; buffer = replaced-refused xs k (checkLink t a) (linkOf t a) _ (sym (replaced-verdict xs k (checkLink t a) (linkOf t a)) ∙ v) .buffer }
+  not-replaced k = replaced-refused xs k (checkLink t a) (linkOf t a) _ (replacing-above xs k t a (declared xs) 4093 above)

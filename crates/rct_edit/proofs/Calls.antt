@@ -81,9 +81,9 @@ unfolding done
 done-verdict Fine n new old = refl
 done-verdict (Refused r) n new old = refl
 
-pub done-refused : (v : Verdict) (r : Refusal) (n : ℕ) (new old : List ℕ) → v ≡ Refused r → Unchanged r old (done v n new old)
+done-refused : (v : Verdict) (r : Refusal) (n : ℕ) (new old : List ℕ) → done v n new old .verdict ≡ Refused r → Unchanged r old (done v n new old)
 unfolding done
-done-refused v r n new old e = rw e (record { verdict = refl; total = refl; buffer = refl })
+done-refused v r n new old e = rw (sym (done-verdict v n new old) ∙ e) (record { verdict = refl; total = refl; buffer = refl })
 
 pub replaced-verdict : (xs : List ℕ) (k : ℕ) (v : Verdict) (l : Link) → replaced xs k v l .verdict ≡ replaceVerdict xs k v l
 unfolding replaced
@@ -97,16 +97,16 @@ pub made-verdict : (xs : List ℕ) (v : Verdict) (s : Section) → made xs v s .
 unfolding made
 made-verdict xs v s = done-verdict (makeVerdict (length xs) v s) _ _ xs
 
--- a call that is refused leaves every byte
-pub replaced-refused : (xs : List ℕ) (k : ℕ) (v : Verdict) (l : Link) (r : Refusal) → replaceVerdict xs k v l ≡ Refused r → Unchanged r xs (replaced xs k v l)
+-- a call that answers a refusal leaves every byte
+pub replaced-refused : (xs : List ℕ) (k : ℕ) (v : Verdict) (l : Link) (r : Refusal) → replaced xs k v l .verdict ≡ Refused r → Unchanged r xs (replaced xs k v l)
 unfolding replaced
 replaced-refused xs k v l r = done-refused (replaceVerdict xs k v l) r _ _ xs
 
-pub appended-refused : (xs : List ℕ) (v : Verdict) (l : Link) (r : Refusal) → appendVerdict xs v l ≡ Refused r → Unchanged r xs (appended xs v l)
+pub appended-refused : (xs : List ℕ) (v : Verdict) (l : Link) (r : Refusal) → appended xs v l .verdict ≡ Refused r → Unchanged r xs (appended xs v l)
 unfolding appended
 appended-refused xs v l r = done-refused (appendVerdict xs v l) r _ _ xs
 
-pub made-refused : (xs : List ℕ) (v : Verdict) (s : Section) (r : Refusal) → makeVerdict (length xs) v s ≡ Refused r → Unchanged r xs (made xs v s)
+pub made-refused : (xs : List ℕ) (v : Verdict) (s : Section) (r : Refusal) → made xs v s .verdict ≡ Refused r → Unchanged r xs (made xs v s)
 unfolding made
 made-refused xs v s r = done-refused (makeVerdict (length xs) v s) r _ _ xs
 

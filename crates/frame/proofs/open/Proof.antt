@@ -22,7 +22,7 @@ unfolding reached
 returns c =
     let least = c .before .before .least in
     let args = c .before .before .before .before .args in
-    rw (c .refused .ensures, least .ensures .0, opened-short (args .t) (args .demands) (args .s .now) (omega arith))
+    rw (c .refused .ensures, least .ensures, opened-short (args .t) (args .demands) (args .s .now) (omega arith))
 
 shared-slice-read-id : tie.Need-shared-slice-read-id
 shared-slice-read-id c = search needs
@@ -124,7 +124,7 @@ returns-7 c =
     let if2 = c .before .before .before .before .before .before .before .before .before .if2 in
     let total = c .before .before .before .before .total in
     let met = met-indicated (args .demands) (args .s .now) (sym (unmet-by .ensures) ∙ if3 .left) in
-    at-reached _ _ _ (fine-opened (args .t) (args .demands) (args .s .now) (record { id-is = if2 .left; indicated = met; large = omega arith; within = omega arith; limited = omega arith })) (sym (total .ensures .0))
+    at-reached _ _ _ (fine-opened (args .t) (args .demands) (args .s .now) (record { id-is = if2 .left; indicated = met; large = omega arith; within = omega arith; limited = omega arith })) (sym (total .ensures))
 
 pub open-spec : {M : Type 1} → statement M
 open-spec =

@@ -13,7 +13,7 @@ add-result : tie.Need-add-result
 add-result c = omega (arith, ap (λ (f : LengthField). f .length) (c .before .of-bytes .ensures))
 
 returns : tie.Need-returns
-returns c = let n = ap (λ (f : LengthField). f .length) (c .before .of-bytes .ensures) in (omega arith, omega arith)
+returns c = let n = ap (λ (f : LengthField). f .length) (c .before .of-bytes .ensures) in omega arith
 
 pub total-spec : {M : Type 1} → statement M
 total-spec = tie.close (tie.spec of-bytes-requires add-result returns)

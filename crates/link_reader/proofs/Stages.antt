@@ -32,7 +32,7 @@ use Rattle.locator.proofs.Answers.{size-had, size-read, size-refused}
 use Rattle.link.specs.Syntax.{headLength, countLength, itemHead, uriDue, locatorDue}
 use Rattle.link.specs.Reading.{typeAt, uriStart, uriEnd, uriVerdict, locatorIn, locatorRows, countPlace, itemsPlace, countVerdict, itemCount, itemEnd, itemPlace, itemVerdict, itemsVerdict, tailPlace, frontVerdict, restVerdict, bodyVerdict}
 use Rattle.link.specs.Records.{uriInfo, locatorInfo}
-use Rattle.link.proofs.Bounds.{uri-within, body-known, front-known, rest-known, uri-far, count-far, tail-far}
+use Rattle.link.proofs.Bounds.{uri-within, place-within, body-known, front-known, rest-known, uri-far, count-far, tail-far}
 use Rattle.link.proofs.Turns.{items-stop, items-on, place-on}
 use Rattle.link_reader.specs.Stages.{typeIn, uriRows, locatorRow, locatorEnd, tailRows, restRows, Laid, uriTo}
 use Rattle.link_reader.proofs.Places.{Found}
@@ -192,14 +192,41 @@ module _ (xs : List ℕ) where
   unfolding bodyVerdict frontVerdict uriRows restRows
   body-rows = simp then-assoc
 
-  pub stop-uri : (r : Refusal) → uriRows xs ≡ Refused r → bodyVerdict xs ≡ Refused r
-  stop-uri r v = body-rows ∙ refused-then _ _ r v
+  -- the first stage answered a
+  module _ (a : Reached) (e : a ≡ reached (uriRows xs) (uriEnd xs)) where
+    pub stop-uri : (r : Refusal) → a ≡ reach.Refused r → bodyVerdict xs ≡ Refused r
+    stop-uri r q = body-rows ∙ refused-then _ _ r (came-refused _ _ a r e q)
 
-  pub stop-locator : (r : Refusal) → uriRows xs ≡ Fine → locatorRows xs ≡ Refused r → bodyVerdict xs ≡ Refused r
-  stop-locator r u v = body-rows ∙ go-on _ _ u ∙ refused-then _ _ r v
+    -- a place, and the second stage b
+    module _ (u : ℕ) (g : a ≡ reach.At u) (b : Reached) (f : b ≡ reached (locatorRows xs) (countPlace xs)) where
+      came : (uriRows xs ≡ Fine) × (u ≡ uriEnd xs)
+      came = came-at _ _ u a e g
 
-  pub body-rest : uriRows xs ≡ Fine → locatorRows xs ≡ Fine → bodyVerdict xs ≡ restRows xs
-  body-rest u v = body-rows ∙ go-on _ _ u ∙ go-on _ _ v
+      pub stop-locator : (r : Refusal) → b ≡ reach.Refused r → bodyVerdict xs ≡ Refused r
+      stop-locator r q = body-rows ∙ go-on _ _ (came .0) ∙ refused-then _ _ r (came-refused _ _ b r f q)
+
+      -- a place too
+      module _ (p : ℕ) (h : b ≡ reach.At p) where
+        counted-from : (locatorRows xs ≡ Fine) × (p ≡ countPlace xs)
+        counted-from = came-at _ _ p b f h
+
+        pub front-past : (p ≡ countPlace xs) × (p ≤ length xs)
+        front-past =
+            let k = counted-from in
+            (k .1, rw (k .1) (place-within xs (uri-known (came .0) .1) (k .0)))
+
+        -- and the third stage d
+        module _ (d : Reached) (w : d ≡ reached (restRows xs) (tailPlace xs)) where
+          body-rest : bodyVerdict xs ≡ restRows xs
+          body-rest = body-rows ∙ go-on _ _ (came .0) ∙ go-on _ _ (counted-from .0)
+
+          pub stop-rest : (r : Refusal) → d ≡ reach.Refused r → bodyVerdict xs ≡ Refused r
+          stop-rest r q = body-rest ∙ came-refused _ _ d r w q
+
+          pub body-past : (t : ℕ) → d ≡ reach.At t → Found xs u p t
+          body-past t q =
+              let k = came-at _ _ t d w q in
+              record { fine = body-rest ∙ k .0; uri = came .1; count = counted-from .1; tail = k .1 }
 
   -- ---- the record
 

@@ -71,18 +71,27 @@ pub fn body_places(s: &[u8]) -> BodyPlaces
     }
 }
 
-// A body's verdict: the same rows.
+// A body's verdict: the same rows, by the same stages. The places are not asked for and dropped, since the compiler builds
+// them wherever it does not inline `body_places`.
 pub fn check_body(s: &[u8]) -> Verdict
     ensures { λ r. ⌜ r ≡ bodyVerdict (now (s .entry)) ⌝ }
 {
-    let places = body_places(s);
-    match places {
-        BodyPlaces::At {
-            uri_end: _,
-            count_at: _,
-            tail: _,
-        } => Verdict::Fine,
-        BodyPlaces::Refused(r) => Verdict::Refused(r),
+    let uri = walk::past_uri(s);
+    match uri {
+        Reached::At(uri_end) => {
+            let count = walk::past_locator(s, uri_end);
+            match count {
+                Reached::At(count_at) => {
+                    let tail = walk::past_rest(s, count_at);
+                    match tail {
+                        Reached::At(_) => Verdict::Fine,
+                        Reached::Refused(r) => Verdict::Refused(r),
+                    }
+                }
+                Reached::Refused(r) => Verdict::Refused(r),
+            }
+        }
+        Reached::Refused(r) => Verdict::Refused(r),
     }
 }
 

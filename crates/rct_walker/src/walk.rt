@@ -83,6 +83,17 @@ fn past_links(s: &[u8], e: usize, at: usize, n: usize) -> Reached
     Reached::At(p)
 }
 
+// The same where there may be none: the loop and its answer cost more than all else that an empty section does.
+fn past_any_links(s: &[u8], e: usize, at: usize, n: usize) -> Reached
+    requires { ⌜ (at ≤ e) × ((e ≤ length (now s)) × (e ≤ 65535)) ⌝ }
+    ensures { λ r. ⌜ r ≡ reached (linksVerdict n (now (s .entry)) e at) (after n (now (s .entry)) at) ⌝ }
+{
+    if n == 0 {
+        return Reached::At(at);
+    }
+    past_links(s, e, at, n)
+}
+
 pub(crate) fn smaller(a: usize, b: usize) -> usize
     ensures { λ r. ⌜ r ≡ min a b ⌝ }
 {
@@ -146,7 +157,7 @@ fn past_rest(s: &[u8], e: usize, at: usize, left: usize) -> Reached
     requires { ⌜ (at ≤ e) × ((e ≤ length (now s)) × (e ≤ 65535)) ⌝ }
     ensures { λ r. ⌜ r ≡ reached (restVerdict left (now (s .entry)) e at) (after left (now (s .entry)) at) ⌝ }
 {
-    let links = past_links(s, e, at, left);
+    let links = past_any_links(s, e, at, left);
     match links {
         Reached::At(loop_at) => {
             let v = loop_verdict(s, e, loop_at);

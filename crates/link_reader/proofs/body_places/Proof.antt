@@ -1,8 +1,6 @@
 -- `body_places` meets its contract. Assumes nothing.
-use Rattle.link.proofs.Bounds.{place-within}
 use Rattle.link_reader.proofs.Places.{at-places, refused-places}
-use Rattle.link_reader.proofs.Stages.{came-at, came-refused, uri-known, stop-uri, stop-locator, body-rest}
-use mathlib.Core.Path.{_∙_}
+use Rattle.link_reader.proofs.Stages.{came-at, stop-uri, stop-locator, front-past, stop-rest, body-past}
 use borrow.Author.Needs.{needs}
 use Rattle.link_reader.proofs.body_places.Statement.{statement}
 use Rattle.link_reader.proofs.body_places.Tie as tie
@@ -16,7 +14,8 @@ enum-known-uri c = search needs
 past-locator-requires : tie.Need-past-locator-requires
 past-locator-requires c κs =
     let past-uri = c .before .before .before .past-uri in
-    came-at _ _ _ _ (past-uri .ensures) (c .before .uri .given .1)
+    let uri = c .before .uri in
+    came-at _ _ _ _ (past-uri .ensures) (uri .given .1)
 
 enum-known-locator : tie.Need-enum-known-locator
 enum-known-locator c = search needs
@@ -27,10 +26,8 @@ past-rest-requires c κs =
     let past-uri = c .before .before .before .before .before .before .before .past-uri in
     let uri = c .before .before .before .before .before .uri in
     let past-locator = c .before .before .before .past-locator in
-    let s = args .s .now in
-    let g = came-at _ _ _ _ (past-uri .ensures) (uri .given .1) in
-    let h = came-at _ _ _ _ (past-locator .ensures) (c .before .locator .given .1) in
-    (h .1, rw (h .1) (place-within s (uri-known s (g .0) .1) (h .0)))
+    let locator = c .before .locator in
+    front-past (args .s .now) _ (past-uri .ensures) _ (uri .given .1) _ (past-locator .ensures) _ (locator .given .1)
 
 enum-known-rest : tie.Need-enum-known-rest
 enum-known-rest c = search needs
@@ -43,11 +40,8 @@ returns c =
     let past-locator = c .before .before .before .before .before .before .before .past-locator in
     let locator = c .before .before .before .before .before .locator in
     let past-rest = c .before .before .before .past-rest in
-    let s = args .s .now in
-    let g = came-at _ _ _ _ (past-uri .ensures) (uri .given .1) in
-    let h = came-at _ _ _ _ (past-locator .ensures) (locator .given .1) in
-    let k = came-at _ _ _ _ (past-rest .ensures) (c .before .rest .given .1) in
-    at-places s _ _ _ (record { fine = body-rest s (g .0) (h .0) ∙ k .0; uri = g .1; count = h .1; tail = k .1 })
+    let rest = c .before .rest in
+    at-places _ _ _ _ (body-past (args .s .now) _ (past-uri .ensures) _ (uri .given .1) _ (past-locator .ensures) _ (locator .given .1) _ (past-rest .ensures) _ (rest .given .1))
 
 enum-known-rest-2 : tie.Need-enum-known-rest-2
 enum-known-rest-2 c = search needs
@@ -60,10 +54,8 @@ returns-2 c =
     let past-locator = c .before .before .before .before .before .before .before .past-locator in
     let locator = c .before .before .before .before .before .locator in
     let past-rest = c .before .before .before .past-rest in
-    let s = args .s .now in
-    let fine = came-at _ _ _ _ (past-uri .ensures) (uri .given .1) .0 in
-    let fine2 = came-at _ _ _ _ (past-locator .ensures) (locator .given .1) .0 in
-    refused-places s _ (body-rest s fine fine2 ∙ came-refused _ _ _ _ (past-rest .ensures) (c .before .rest2 .given .1))
+    let rest2 = c .before .rest2 in
+    refused-places _ _ (stop-rest (args .s .now) _ (past-uri .ensures) _ (uri .given .1) _ (past-locator .ensures) _ (locator .given .1) _ (past-rest .ensures) _ (rest2 .given .1))
 
 enum-known-locator-2 : tie.Need-enum-known-locator-2
 enum-known-locator-2 c = search needs
@@ -74,9 +66,8 @@ returns-3 c =
     let past-uri = c .before .before .before .before .before .before .before .past-uri in
     let uri = c .before .before .before .before .before .uri in
     let past-locator = c .before .before .before .past-locator in
-    let s = args .s .now in
-    let fine = came-at _ _ _ _ (past-uri .ensures) (uri .given .1) .0 in
-    refused-places s _ (stop-locator s _ fine (came-refused _ _ _ _ (past-locator .ensures) (c .before .locator2 .given .1)))
+    let locator2 = c .before .locator2 in
+    refused-places _ _ (stop-locator (args .s .now) _ (past-uri .ensures) _ (uri .given .1) _ (past-locator .ensures) _ (locator2 .given .1))
 
 enum-known-uri-2 : tie.Need-enum-known-uri-2
 enum-known-uri-2 c = search needs
@@ -85,8 +76,8 @@ returns-4 : tie.Need-returns-4
 returns-4 c =
     let args = c .before .before .before .before .before .args in
     let past-uri = c .before .before .before .past-uri in
-    let s = args .s .now in
-    refused-places s _ (stop-uri s _ (came-refused _ _ _ _ (past-uri .ensures) (c .before .uri2 .given .1)))
+    let uri2 = c .before .uri2 in
+    refused-places _ _ (stop-uri (args .s .now) _ (past-uri .ensures) _ (uri2 .given .1))
 
 pub body-places-spec : {M : Type 1} → statement M
 body-places-spec =

@@ -8,17 +8,17 @@ use borrow.Author.Needs.{needs}
 use Rattle.rct_walker.proofs.walk.past_rest.Statement.{statement}
 use Rattle.rct_walker.proofs.walk.past_rest.Tie as tie
 
-past-links-requires : tie.Need-past-links-requires
-past-links-requires c κs = search needs
+past-any-links-requires : tie.Need-past-any-links-requires
+past-any-links-requires c κs = search needs
 
 enum-known-links : tie.Need-enum-known-links
 enum-known-links c = search needs
 
 loop-verdict-requires : tie.Need-loop-verdict-requires
 loop-verdict-requires c κs =
-    let past-links = c .before .before .before .past-links in
+    let past-any-links = c .before .before .before .past-any-links in
     let args = c .before .before .before .before .before .args in
-    let g = reached-at _ _ _ (sym (past-links .ensures) ∙ c .before .links .given .1) in
+    let g = reached-at _ _ _ (sym (past-any-links .ensures) ∙ c .before .links .given .1) in
     let w = links-within (args .left) (args .s .now) (args .e) (args .at) (omega arith) (g .0) in
     (omega arith, omega (arith, g .1))
 
@@ -34,34 +34,34 @@ enum-known-links-2 c = search needs
 returns : tie.Need-returns
 returns c =
     let args = c .before .before .before .before .before .before .before .before .args in
-    let past-links = c .before .before .before .before .before .before .past-links in
+    let past-any-links = c .before .before .before .before .before .before .past-any-links in
     let links = c .before .before .before .before .links in
     let loop-verdict = c .before .before .loop-verdict in
     let s = args .s .now in
-    let g = reached-at _ _ _ (sym (past-links .ensures) ∙ links .given .1) in
+    let g = reached-at _ _ _ (sym (past-any-links .ensures) ∙ links .given .1) in
     at-reached _ _ _ (rest-loop (args .left) s _ _ (g .0) ∙ ap (λ p. loopVerdict s (args .e) p) (g .1) ∙ sym (loop-verdict .ensures) ∙ c .enum-told .given .1) (g .1)
 
 returns-2 : tie.Need-returns-2
 returns-2 c =
     let args = c .before .before .before .before .before .before .before .before .before .args in
-    let past-links = c .before .before .before .before .before .before .before .past-links in
+    let past-any-links = c .before .before .before .before .before .before .before .past-any-links in
     let links = c .before .before .before .before .before .links in
     let loop-verdict = c .before .before .before .loop-verdict in
     let s = args .s .now in
-    let g = reached-at _ _ _ (sym (past-links .ensures) ∙ links .given .1) in
+    let g = reached-at _ _ _ (sym (past-any-links .ensures) ∙ links .given .1) in
     refused-reached _ _ _ (rest-loop (args .left) s _ _ (g .0) ∙ ap (λ p. loopVerdict s (args .e) p) (g .1) ∙ sym (loop-verdict .ensures) ∙ c .before .v .given .1)
 
 returns-3 : tie.Need-returns-3
 returns-3 c =
     let args = c .before .before .before .before .before .args in
-    let past-links = c .before .before .before .past-links in
-    refused-reached _ _ _ (rest-stop (args .left) (args .s .now) _ _ _ (reached-refused _ _ _ (sym (past-links .ensures) ∙ c .before .links2 .given .1)))
+    let past-any-links = c .before .before .before .past-any-links in
+    refused-reached _ _ _ (rest-stop (args .left) (args .s .now) _ _ _ (reached-refused _ _ _ (sym (past-any-links .ensures) ∙ c .before .links2 .given .1)))
 
 pub past-rest-spec : {M : Type 1} → statement M
 past-rest-spec =
     tie.close
     (tie.spec
-    past-links-requires
+    past-any-links-requires
     enum-known-links
     loop-verdict-requires
     enum-told

@@ -1,7 +1,7 @@
 -- Each public function's own contract takes every input and leaves one outcome.
 -- Assumes nothing.
 use mathlib.Core.Path.{refl}
-use Rattle.wire.proofs.One.{One, both, pair}
+use Rattle.wire.proofs.One.{One, both}
 use Rattle.frame.proofs.Table.least.Kinds as least-kinds
 use Rattle.frame.proofs.Table.least.Reads as least-reads
 use Rattle.frame.proofs.Demands.plain.Kinds as plain-kinds
@@ -12,12 +12,6 @@ use Rattle.frame.proofs.total.Kinds as total-kinds
 use Rattle.frame.proofs.total.Reads as total-reads
 use Rattle.frame.proofs.payload_end.Kinds as payload-end-kinds
 use Rattle.frame.proofs.payload_end.Reads as payload-end-reads
-use Rattle.frame.proofs.open.Kinds as open-kinds
-use Rattle.frame.proofs.open.Reads as open-reads
-use Rattle.frame.proofs.ending.check_crc.Kinds as check-crc-kinds
-use Rattle.frame.proofs.ending.check_crc.Reads as check-crc-reads
-use Rattle.frame.proofs.ending.seal.Kinds as seal-kinds
-use Rattle.frame.proofs.ending.seal.Reads as seal-reads
 
 pub least-one : One least-kinds.ps least-kinds.r least-reads.Asked least-reads.Learnt
 least-one = record { total = λ κs a. tt; one = λ κs a x y v w p q. (both p q, refl) }
@@ -33,12 +27,3 @@ total-one = record { total = λ κs a. tt; one = λ κs a x y v w p q. (both p q
 
 pub payload-end-one : One payload-end-kinds.ps payload-end-kinds.r payload-end-reads.Asked payload-end-reads.Learnt
 payload-end-one = record { total = λ κs a. tt; one = λ κs a x y v w p q. (both p q, refl) }
-
-pub open-one : One open-kinds.ps open-kinds.r open-reads.Asked open-reads.Learnt
-open-one = record { total = λ κs a. tt; one = λ κs a x y v w p q. (both p q, refl) }
-
-pub check-crc-one : One check-crc-kinds.ps check-crc-kinds.r check-crc-reads.Asked check-crc-reads.Learnt
-check-crc-one = record { total = λ κs a. tt; one = λ κs a x y v w p q. (both p q, refl) }
-
-pub seal-one : One seal-kinds.ps seal-kinds.r seal-reads.Asked seal-reads.Learnt
-seal-one = record { total = λ κs a. tt; one = λ κs a x y v w p q. (both (p .0) (q .0), pair (both (p .1) (q .1)) refl) }

@@ -1,15 +1,9 @@
 // What the sections of every table share: how they begin, how long they are, and how they end.
 ghost use mathlib.Core.Path.{_≡_};
 ghost use Prim.Native.Nat.{_-_};
-ghost use Rattle.wire.specs.Verdict.{bad, reached};
 ghost use Rattle.frame.specs.Syntax.{crcLength, least};
-ghost use Rattle.frame.specs.Reading.{totalIn, totalOf, plainDemands, checkedDemands, unindicated, opened};
-use section_header::SectionHeader;
+ghost use Rattle.frame.specs.Reading.{totalIn, plainDemands, checkedDemands};
 use wire::lengths::LengthField;
-use wire::verdict::Reached;
-use wire::verdict::Refusal;
-
-pub mod ending;
 
 // A table: its id, its smallest section_length, and the number of the refusal of another id.
 pub struct Table {
@@ -65,16 +59,6 @@ impl Demands {
             most: Demands::LIMIT,
         }
     }
-
-    // The indicator is demanded, and byte 1 does not have it.
-    fn unmet_by(self, b1: u8) -> bool
-        ensures { λ r. ⌜ r ≡ unindicated self b1 ⌝ }
-    {
-        if self.indicator {
-            return !SectionHeader::syntax_indicator(b1);
-        }
-        false
-    }
 }
 
 // The bytes of a whole section, of its bytes 1 and 2.
@@ -93,45 +77,4 @@ pub fn payload_end(total: usize) -> usize
         return 0;
     }
     total - Table::CRC_LENGTH
-}
-
-fn refused(number: u8, first: usize, second: usize) -> Reached
-    ensures { λ r. ⌜ r ≡ reached (bad number first second) 0 ⌝ }
-{
-    Reached::Refused(Refusal {
-        number,
-        first,
-        second,
-    })
-}
-
-// The place behind the section that `s` begins with, if it is a whole one of the table and as the reading demands.
-pub fn open(s: &[u8], t: Table, demands: Demands) -> Reached
-    ensures { λ r. ⌜ r ≡ reached (opened t demands (now (s .entry))) (totalOf (now (s .entry))) ⌝ }
-{
-    let least = t.least();
-    if s.len() < least {
-        return refused(Refusal::TOO_SHORT, least, s.len());
-    }
-    let id = s[0];
-    if id != t.id {
-        return refused(t.other, wire::wide(t.id), wire::wide(id));
-    }
-    let b1 = s[1];
-    if demands.unmet_by(b1) {
-        return refused(Refusal::NO_SYNTAX_INDICATOR, wire::wide(b1), 0);
-    }
-    let total = total(b1, s[2]);
-    let length = total - Table::UNCOUNTED;
-    if total < least {
-        return refused(Refusal::WRONG_LENGTH, length, s.len());
-    }
-    let lent = s.len();
-    if lent < total {
-        return refused(Refusal::WRONG_LENGTH, length, lent);
-    }
-    if demands.most < length {
-        return refused(Refusal::SECTION_TOO_LONG, length, demands.most);
-    }
-    Reached::At(total)
 }

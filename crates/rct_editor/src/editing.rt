@@ -17,7 +17,7 @@ pub fn append_placed(b: &mut [u8], text: &[u8], link: LinkInfo) -> Spliced
     ensures { λ r. ⌜ r ≡ appendingPlaced (now (b .entry)) (now (text .entry)) link ⌝ }
     ensures { λ r. ⌜ now (b .exit) ≡ appending (now (b .entry)) (now (text .entry)) link .buffer ⌝ }
 {
-    let walked = rct_walker::checked_places(b, 0);
+    let walked = rct_readings::checked_places(b, 0);
     match walked {
         RctWalked::Read(places) => {
             let at = places.loop_at;
@@ -50,7 +50,7 @@ pub fn replace_placed(b: &mut [u8], number: usize, text: &[u8], link: LinkInfo) 
     ensures { λ r. ⌜ r ≡ replacingPlaced (now (b .entry)) number (now (text .entry)) link ⌝ }
     ensures { λ r. ⌜ now (b .exit) ≡ replacing (now (b .entry)) number (now (text .entry)) link .buffer ⌝ }
 {
-    let walked = rct_walker::checked_places(b, number);
+    let walked = rct_readings::checked_places(b, number);
     match walked {
         RctWalked::Read(places) => {
             let count = places.count;

@@ -52,7 +52,7 @@ pub(crate) fn put_between(
     byte_moves::move_within(b, to, behind, frame::payload_end(total) - to);
     put_entry(b, from, body, text, link);
     put_numbers(b, section_length, count);
-    let new = frame::ending::seal(b, frame::payload_end(Table::UNCOUNTED + section_length));
+    let new = frame_ending::seal(b, frame::payload_end(Table::UNCOUNTED + section_length));
     fill(b, new, total);
     Edited::accepted(new)
 }

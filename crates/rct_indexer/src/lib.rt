@@ -25,7 +25,7 @@ use wire::verdict::Verdict;
 pub fn build_index(s: &[u8]) -> IndexBuilt
     ensures { λ r. ⌜ r ≡ building (now (s .entry)) ⌝ }
 {
-    let front = frame::open(s, RctHeader::table(), Demands::plain());
+    let front = frame_opening::open(s, RctHeader::table(), Demands::plain());
     match front {
         Reached::At(total) => {
             let end = frame::payload_end(total);

@@ -76,7 +76,7 @@ fn body_at(s: &[u8], places: RctPlaces, number: usize) -> NumberedBody
 pub fn numbered_body(s: &[u8], number: usize) -> NumberedBody
     ensures { λ r. ⌜ r ≡ numberedBody (now (s .entry)) number ⌝ }
 {
-    let found = rct_walker::plain_places(s, number);
+    let found = rct_readings::plain_places(s, number);
     match found {
         RctWalked::Read(places) => body_at(s, places, number),
         RctWalked::Refused(r) => no_body(r),

@@ -47,7 +47,7 @@ pub fn make(
     let head = head_bytes(header, length);
     wire::put_at(b, 0, &head);
     let end = put_loop(b, reserved_descriptor_loop_length, text, descriptors);
-    Edited::accepted(frame::ending::seal(b, end))
+    Edited::accepted(frame_ending::seal(b, end))
 }
 
 // 22 of ranks 23 and 24.

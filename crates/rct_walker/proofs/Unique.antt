@@ -2,30 +2,20 @@
 -- Assumes nothing.
 use mathlib.Core.Path.{refl}
 use Rattle.wire.proofs.One.{One, both}
-use Rattle.rct_walker.proofs.plain_places.Kinds as plain-places-kinds
-use Rattle.rct_walker.proofs.plain_places.Reads as plain-places-reads
-use Rattle.rct_walker.proofs.checked_places.Kinds as checked-places-kinds
-use Rattle.rct_walker.proofs.checked_places.Reads as checked-places-reads
-use Rattle.rct_walker.proofs.plain_loop.Kinds as plain-loop-kinds
-use Rattle.rct_walker.proofs.plain_loop.Reads as plain-loop-reads
-use Rattle.rct_walker.proofs.checked_loop.Kinds as checked-loop-kinds
-use Rattle.rct_walker.proofs.checked_loop.Reads as checked-loop-reads
+use Rattle.rct_walker.proofs.walk.read_places.Kinds as read-places-kinds
+use Rattle.rct_walker.proofs.walk.read_places.Reads as read-places-reads
+use Rattle.rct_walker.proofs.walk.read_loop.Kinds as read-loop-kinds
+use Rattle.rct_walker.proofs.walk.read_loop.Reads as read-loop-reads
 use Rattle.rct_walker.proofs.entry.read_entry.Kinds as read-entry-kinds
 use Rattle.rct_walker.proofs.entry.read_entry.Reads as read-entry-reads
 use Rattle.rct_walker.proofs.entry.check_loop.Kinds as check-loop-kinds
 use Rattle.rct_walker.proofs.entry.check_loop.Reads as check-loop-reads
 
-pub plain-places-one : One plain-places-kinds.ps plain-places-kinds.r plain-places-reads.Asked plain-places-reads.Learnt
-plain-places-one = record { total = λ κs a. tt; one = λ κs a x y v w p q. (both p q, refl) }
+pub read-places-one : One read-places-kinds.ps read-places-kinds.r read-places-reads.Asked read-places-reads.Learnt
+read-places-one = record { total = λ κs a. tt; one = λ κs a x y v w p q. (both p q, refl) }
 
-pub checked-places-one : One checked-places-kinds.ps checked-places-kinds.r checked-places-reads.Asked checked-places-reads.Learnt
-checked-places-one = record { total = λ κs a. tt; one = λ κs a x y v w p q. (both p q, refl) }
-
-pub plain-loop-one : One plain-loop-kinds.ps plain-loop-kinds.r plain-loop-reads.Asked plain-loop-reads.Learnt
-plain-loop-one = record { total = λ κs a. tt; one = λ κs a x y v w p q. (both p q, refl) }
-
-pub checked-loop-one : One checked-loop-kinds.ps checked-loop-kinds.r checked-loop-reads.Asked checked-loop-reads.Learnt
-checked-loop-one = record { total = λ κs a. tt; one = λ κs a x y v w p q. (both p q, refl) }
+pub read-loop-one : One read-loop-kinds.ps read-loop-kinds.r read-loop-reads.Asked read-loop-reads.Learnt
+read-loop-one = record { total = λ κs a. tt; one = λ κs a x y v w p q. (both p q, refl) }
 
 pub read-entry-one : One read-entry-kinds.ps read-entry-kinds.r read-entry-reads.Asked read-entry-reads.Learnt
 read-entry-one = record { total = λ κs a. tt; one = λ κs a x y v w p q. (both p q, refl) }

@@ -198,10 +198,10 @@ fn past_payload(s: &[u8], total: usize, number: usize) -> RctWalked
 }
 
 // The whole section, by what a reading demands: its places.
-pub(crate) fn read_places(s: &[u8], demands: Demands, number: usize) -> RctWalked
+pub fn read_places(s: &[u8], demands: Demands, number: usize) -> RctWalked
     ensures { λ r. ⌜ r ≡ walked (reading demands (now (s .entry))) (placesAt (now (s .entry)) number) ⌝ }
 {
-    let front = frame::open(s, RctHeader::table(), demands);
+    let front = frame_opening::open(s, RctHeader::table(), demands);
     match front {
         Reached::At(total) => past_payload(s, total, number),
         Reached::Refused(r) => RctWalked::Refused(r),
@@ -209,10 +209,10 @@ pub(crate) fn read_places(s: &[u8], demands: Demands, number: usize) -> RctWalke
 }
 
 // The whole section, by what a reading demands: the place of its loop.
-pub(crate) fn read_loop(s: &[u8], demands: Demands) -> RctLoop
+pub fn read_loop(s: &[u8], demands: Demands) -> RctLoop
     ensures { λ r. ⌜ r ≡ loopFound (reading demands (now (s .entry))) (now (s .entry)) ⌝ }
 {
-    let front = frame::open(s, RctHeader::table(), demands);
+    let front = frame_opening::open(s, RctHeader::table(), demands);
     match front {
         Reached::At(total) => {
             let end = frame::payload_end(total);

@@ -53,7 +53,7 @@ fn provider_at(s: &[u8], places: RntPlaces, number: usize) -> ProviderRead
 pub fn read_provider(s: &[u8], number: usize) -> ProviderRead
     ensures { λ r. ⌜ r ≡ numberedProvider (now (s .entry)) number ⌝ }
 {
-    let found = rnt_walker::plain_places(s, number, 0);
+    let found = rnt_readings::plain_places(s, number, 0);
     match found {
         RntWalked::Read(places) => provider_at(s, places, number),
         RntWalked::Refused(r) => ProviderRead::Refused(r),
@@ -91,7 +91,7 @@ fn authority_at(s: &[u8], places: RntPlaces, number: usize, authority: usize) ->
 pub fn read_authority(s: &[u8], number: usize, authority: usize) -> AuthorityRead
     ensures { λ r. ⌜ r ≡ numberedAuthority (now (s .entry)) number authority ⌝ }
 {
-    let found = rnt_walker::plain_places(s, number, authority);
+    let found = rnt_readings::plain_places(s, number, authority);
     match found {
         RntWalked::Read(places) => authority_at(s, places, number, authority),
         RntWalked::Refused(r) => AuthorityRead::Refused(r),

@@ -78,12 +78,12 @@ fn section_of(s: &[u8], found: RntWalked) -> RntRead
 pub fn read_section(s: &[u8]) -> RntRead
     ensures { λ r. ⌜ r ≡ sectionRead (plain (now (s .entry))) (now (s .entry)) ⌝ }
 {
-    section_of(s, rnt_walker::plain_places(s, 0, 0))
+    section_of(s, rnt_readings::plain_places(s, 0, 0))
 }
 
 // The checked reading: the plain one with 38 behind 40, then 20.
 pub fn check_section(s: &[u8]) -> RntRead
     ensures { λ r. ⌜ r ≡ sectionRead (checked (now (s .entry))) (now (s .entry)) ⌝ }
 {
-    section_of(s, rnt_walker::checked_places(s, 0, 0))
+    section_of(s, rnt_readings::checked_places(s, 0, 0))
 }

@@ -227,7 +227,7 @@ fn past_payload(s: &[u8], total: usize, provider: usize, authority: usize) -> Rn
 }
 
 // The whole section, by what a reading demands.
-pub(crate) fn read_places(
+pub fn read_places(
     s: &[u8],
     demands: Demands,
     provider: usize,
@@ -235,7 +235,7 @@ pub(crate) fn read_places(
 ) -> RntWalked
     ensures { λ r. ⌜ r ≡ walked (reading demands (now (s .entry))) (placesAt (now (s .entry)) provider authority) ⌝ }
 {
-    let front = frame::open(s, RntHeader::table(), demands);
+    let front = frame_opening::open(s, RntHeader::table(), demands);
     match front {
         Reached::At(total) => past_payload(s, total, provider, authority),
         Reached::Refused(r) => RntWalked::Refused(r),

@@ -227,12 +227,7 @@ fn past_payload(s: &[u8], total: usize, provider: usize, authority: usize) -> Rn
 }
 
 // The whole section, by what a reading demands.
-pub fn read_places(
-    s: &[u8],
-    demands: Demands,
-    provider: usize,
-    authority: usize,
-) -> RntWalked
+pub fn read_places(s: &[u8], demands: Demands, provider: usize, authority: usize) -> RntWalked
     ensures { λ r. ⌜ r ≡ walked (reading demands (now (s .entry))) (placesAt (now (s .entry)) provider authority) ⌝ }
 {
     let front = frame_opening::open(s, RntHeader::table(), demands);

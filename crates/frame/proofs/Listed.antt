@@ -87,8 +87,12 @@ module _ (t : Table) (rows : List ℕ → Verdict) (ns : List ℕ) (own : (xs : 
   unfolding readingBy
   plain-among a xs = among-then ns _ _ (among-more (opening t) ns _ a (opening-listed t plainDemands xs refl (omega arith))) (own xs)
 
-  -- by a list ms that has those, 38, 28 and 20
-  pub checked-among : (ms : List ℕ) → allListed (demandedOpening t) ms ≡ true → allListed ns ms ≡ true → listed wrongCrc ms ≡ true → (xs : List ℕ) → Among ms (checkedBy t rows xs)
-  unfolding readingBy checkedBy crcRow
-  checked-among ms a more crc xs =
-      among-then ms _ _ (among-then ms _ _ (among-more (demandedOpening t) ms _ a (demanded-listed t checkedDemands xs)) (among-more ns ms _ more (own xs))) (among-row ms _ wrongCrc _ _ crc)
+  -- whatever is demanded, by a list ms that has those, 38 and 28; the checked reading, if ms has 20 too
+  module _ (ms : List ℕ) (a : allListed (demandedOpening t) ms ≡ true) (more : allListed ns ms ≡ true) where
+    pub demanded-among : (d : Demands) (xs : List ℕ) → Among ms (readingBy t rows d xs)
+    unfolding readingBy
+    demanded-among d xs = among-then ms _ _ (among-more (demandedOpening t) ms _ a (demanded-listed t d xs)) (among-more ns ms _ more (own xs))
+
+    pub checked-among : listed wrongCrc ms ≡ true → (xs : List ℕ) → Among ms (checkedBy t rows xs)
+    unfolding checkedBy crcRow
+    checked-among crc xs = among-then ms _ _ (demanded-among checkedDemands xs) (among-row ms _ wrongCrc _ _ crc)

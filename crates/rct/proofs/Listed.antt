@@ -11,11 +11,12 @@ use Rattle.wire.specs.Verdict.{bad}
 use Rattle.wire.proofs.Among.{Among, among-fine, among-row, among-then, among-more, Never, among-never, block-listed, last-listed}
 use Rattle.link.proofs.Listed.{bodyReading, body-listed}
 use Rattle.frame.specs.Reading.{payloadEnd}
-use Rattle.frame.proofs.Listed.{plain-among, checked-among}
+use Rattle.frame.specs.declared.Demands.{Demands}
+use Rattle.frame.proofs.Listed.{plain-among, demanded-among, checked-among}
 use Rattle.frame.proofs.Indicator.{Unindicated, unindicated-iff}
 use Rattle.frame.proofs.Limit.{AboveLimit, above-iff}
 use Rattle.rct.specs.Syntax.{headLength, rct}
-use Rattle.rct.specs.Reading.{bodyIn, countAt, loopPlace, entryVerdict, linksVerdict, payloadVerdict, plain, numberRow, checked}
+use Rattle.rct.specs.Reading.{bodyIn, countAt, loopPlace, entryVerdict, linksVerdict, payloadVerdict, reading, plain, numberRow, checked}
 
 -- 4 to 16, of one entry
 abbrev pub entryReading : List ℕ
@@ -25,9 +26,13 @@ entryReading = entryCut ∷ linkTooLong ∷ bodyReading
 abbrev pub plainReading : List ℕ
 plainReading = tooShort ∷ notRct ∷ wrongLength ∷ (entryReading ++ loopCut ∷ loopTooLong ∷ sectionSlack ∷ [])
 
--- to 20, 28 and 38
+-- with 28 and 38, which a reading may demand
+abbrev pub demandedReading : List ℕ
+demandedReading = plainReading ++ sectionTooLong ∷ noSyntaxIndicator ∷ []
+
+-- and 20
 abbrev pub checkedReading : List ℕ
-checkedReading = plainReading ++ wrongCrc ∷ sectionTooLong ∷ noSyntaxIndicator ∷ []
+checkedReading = demandedReading ++ wrongCrc ∷ []
 
 -- ---- what stands behind the opening
 
@@ -57,6 +62,9 @@ plain-never-28 xs = among-never plainReading (plain xs) sectionTooLong (plain-li
 
 pub plain-never-38 : (xs : List ℕ) → Never noSyntaxIndicator (plain xs)
 plain-never-38 xs = among-never plainReading (plain xs) noSyntaxIndicator (plain-listed xs) refl
+
+pub reading-listed : (d : Demands) (xs : List ℕ) → Among demandedReading (reading d xs)
+reading-listed = demanded-among rct payloadVerdict plainReading payload-listed demandedReading refl refl
 
 pub checked-listed : (xs : List ℕ) → Among checkedReading (checked xs)
 checked-listed = checked-among rct payloadVerdict plainReading payload-listed checkedReading refl refl refl

@@ -10,11 +10,12 @@ use Rattle.wire.specs.Verdict.{bad}
 use Rattle.wire.proofs.Among.{Among, among-row, among-then, among-more, Never, among-never, block-listed}
 use Rattle.wire.proofs.RunLaws.{each-listed}
 use Rattle.frame.specs.Reading.{payloadEnd}
-use Rattle.frame.proofs.Listed.{plain-among, checked-among}
+use Rattle.frame.specs.declared.Demands.{Demands}
+use Rattle.frame.proofs.Listed.{plain-among, demanded-among, checked-among}
 use Rattle.frame.proofs.Indicator.{Unindicated, unindicated-iff}
 use Rattle.frame.proofs.Limit.{AboveLimit, above-iff}
 use Rattle.rnt.specs.Syntax.{rnt}
-use Rattle.rnt.specs.Reading.{providerPlaces, authorityPlaces, authorityVerdict, providerHead, providerVerdict, commonRow, payloadVerdict, plain, checked, providerRows, authorityRows}
+use Rattle.rnt.specs.Reading.{providerPlaces, authorityPlaces, authorityVerdict, providerHead, providerVerdict, commonRow, payloadVerdict, reading, plain, checked, providerRows, authorityRows}
 use Rattle.rnt.proofs.Names.{named-listed}
 
 -- 42 to 45, of a provider without its authorities; 46, of an authority
@@ -27,8 +28,13 @@ authorityReading = authorityCut ∷ []
 abbrev pub plainReading : List ℕ
 plainReading = tooShort ∷ notRnt ∷ wrongLength ∷ commonTooLong ∷ (headReading ++ authorityReading)
 
+-- with 28 and 38, which a reading may demand
+abbrev pub demandedReading : List ℕ
+demandedReading = plainReading ++ sectionTooLong ∷ noSyntaxIndicator ∷ []
+
+-- and 20
 abbrev pub checkedReading : List ℕ
-checkedReading = plainReading ++ wrongCrc ∷ sectionTooLong ∷ noSyntaxIndicator ∷ []
+checkedReading = demandedReading ++ wrongCrc ∷ []
 
 abbrev pub numberedReading : List ℕ
 numberedReading = plainReading ++ noSuchNumber ∷ []
@@ -63,6 +69,9 @@ plain-never-28 xs = among-never plainReading (plain xs) sectionTooLong (plain-li
 
 pub plain-never-38 : (xs : List ℕ) → Never noSyntaxIndicator (plain xs)
 plain-never-38 xs = among-never plainReading (plain xs) noSyntaxIndicator (plain-listed xs) refl
+
+pub reading-listed : (d : Demands) (xs : List ℕ) → Among demandedReading (reading d xs)
+reading-listed = demanded-among rnt payloadVerdict plainReading payload-listed demandedReading refl refl
 
 pub checked-listed : (xs : List ℕ) → Among checkedReading (checked xs)
 checked-listed = checked-among rnt payloadVerdict plainReading payload-listed checkedReading refl refl refl

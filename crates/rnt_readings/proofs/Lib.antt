@@ -1,2 +1,3 @@
--- That each public contract leaves one outcome.
+-- Which numbers the two readings answer, and that each public contract leaves one outcome.
+pub mod Listed
 pub mod Unique

@@ -1,4 +1,4 @@
--- Which numbers a walk can answer at all: those of its reading; of a provider by place 42 to 45, of an authority 46.
+-- Which numbers a walk can answer at all: those of its reading, whatever is demanded; of a provider by place 42 to 45, of an authority 46.
 -- Assumes nothing.
 use Prim.Native.Nat.{ℕ}
 use mathlib.Core.Path.{_≡_}
@@ -9,10 +9,11 @@ use Rattle.wire.specs.declared.verdict.Refusal.{Refusal}
 use Rattle.wire.specs.declared.verdict.Verdict.{Verdict}
 use Rattle.wire.specs.declared.verdict.Verdict.the-variants.{Fine, Refused}
 use Rattle.wire.proofs.Among.{listed, Among}
-use Rattle.rnt.specs.Reading.{authorityVerdict, providerHead, plain, checked}
+use Rattle.frame.specs.declared.Demands.{Demands}
+use Rattle.rnt.specs.Reading.{authorityVerdict, providerHead, reading}
 use Rattle.rnt.specs.declared.CridAuthority.{CridAuthority}
 use Rattle.rnt.specs.declared.ResolutionProvider.{ResolutionProvider}
-use Rattle.rnt.proofs.Listed.{headReading, authorityReading, plainReading, checkedReading, head-listed, authority-listed, plain-listed, checked-listed}
+use Rattle.rnt.proofs.Listed.{headReading, authorityReading, demandedReading, head-listed, authority-listed, reading-listed}
 use Rattle.rnt_walker.specs.Places.{placesAt, walked}
 use Rattle.rnt_walker.specs.Entries.{endIn, providerAnswer, providerFrom, authorityAnswer, authorityFrom}
 use Rattle.rnt_walker.specs.declared.RntWalked.the-variants as walk
@@ -20,11 +21,8 @@ use Rattle.rnt_walker.specs.declared.entry.ProviderFound.the-variants as
 use Rattle.rnt_walker.specs.declared.entry.AuthorityFound.the-variants as authority
 use Rattle.rnt_walker.proofs.Walks.{walked-refused}
 
-pub plain-places-listed : (xs : List ℕ) (k j : ℕ) (r : Refusal) → walked (plain xs) (placesAt xs k j) ≡ walk.Refused r → listed (r .number) plainReading ≡ true
-plain-places-listed xs k j r e = plain-listed xs r (walked-refused (plain xs) _ r e)
-
-pub checked-places-listed : (xs : List ℕ) (k j : ℕ) (r : Refusal) → walked (checked xs) (placesAt xs k j) ≡ walk.Refused r → listed (r .number) checkedReading ≡ true
-checked-places-listed xs k j r e = checked-listed xs r (walked-refused (checked xs) _ r e)
+pub read-places-listed : (d : Demands) (xs : List ℕ) (k j : ℕ) (r : Refusal) → walked (reading d xs) (placesAt xs k j) ≡ walk.Refused r → listed (r .number) demandedReading ≡ true
+read-places-listed d xs k j r e = reading-listed d xs r (walked-refused (reading d xs) _ r e)
 
 pub provider-from-listed : (xs : List ℕ) (e p : ℕ) (r : Refusal) → providerFrom xs e p ≡ provider.Refused r → listed (r .number) headReading ≡ true
 unfolding providerFrom providerAnswer

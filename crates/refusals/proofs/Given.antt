@@ -1,0 +1,33 @@
+-- What it is to answer a number of the fixed list alone.
+-- Assumes nothing.
+use Prim.Native.Nat.{ℕ}
+use mathlib.Core.Path.{_≡_, refl}
+use mathlib.Core.Bool.{true, false}
+use mathlib.Core.List.{List}
+use Rattle.wire.specs.Refusals.{bodyTooLong}
+use Rattle.wire.specs.declared.verdict.Refusal.{Refusal}
+use Rattle.wire.specs.declared.verdict.Verdict.{Verdict}
+use Rattle.wire.proofs.Among.{listed, allListed, Among, listed-more, among-more, Never, among-never}
+use Rattle.refusals.specs.FixedList.{fixedList}
+
+-- of a verdict, and of a refusal
+abbrev pub Given : Verdict → Type 0
+Given v = Among fixedList v
+
+abbrev pub OnList : Refusal → Type 0
+OnList r = listed (r .number) fixedList ≡ true
+
+-- by a shorter list
+pub given : (ns : List ℕ) (v : Verdict) → allListed ns fixedList ≡ true → Among ns v → Given v
+given ns v a p = among-more ns fixedList v a p
+
+pub on-list : (ns : List ℕ) (r : Refusal) → allListed ns fixedList ≡ true → listed (r .number) ns ≡ true → OnList r
+on-list ns r a p = listed-more ns fixedList (r .number) a p
+
+-- a number that is not on the list is the answer of no call
+pub never : (n : ℕ) (v : Verdict) → listed n fixedList ≡ false → Given v → Never n v
+never n v h g = among-never fixedList v n g h
+
+-- 27 is not
+pub never-27 : (v : Verdict) → Given v → Never bodyTooLong v
+never-27 v g = never bodyTooLong v refl g

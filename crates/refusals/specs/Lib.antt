@@ -1,0 +1,2 @@
+-- The numbers of the fixed list.
+pub mod FixedList

@@ -1,5 +1,5 @@
--- Which numbers a reading of the section can answer at all: the plain one 1 to 19, the checked one also 20, 28 and 38. So neither 27
--- nor, plainly, 28 and 38.
+-- Which numbers a reading of the section can answer at all: the plain one 1 to 19, so neither 28 nor 38; the checked one also 20, 28
+-- and 38.
 -- Assumes nothing.
 use Prim.Native.Nat.{ℕ, zero, suc}
 use mathlib.Core.Path.{_≡_, refl}

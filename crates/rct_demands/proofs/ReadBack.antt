@@ -117,7 +117,7 @@ module _ (xs : List ℕ) (b : Bytes xs) (t : List ℕ) (a : LinkInfo) (bt : Byte
       old = answers xs (checked xs) v
 
       below : k < countAt xs
-      below = unfold replaceVerdict in number-passed xs k (edit-passed xs (numberRow xs k) (checkLink t a) l s fine .row-fine)
+      below = unfold replaceVerdict in number-passed xs k (edit-passed xs (numberRow xs k) (checkLink t a) s fine .row-fine)
 
       reads : ReadsBack s o
       reads = replaced-back xs b (checkLink t a) l good k f

@@ -1,27 +1,34 @@
 -- A call on a buffer that holds a section: accepted exactly if the records say that it can be, and then the buffer holds the new section.
 -- Assumes nothing.
 use mathlib.Core.Path.{_≡_, refl, sym, ap, _∙_}
-use Prim.Native.Nat.{ℕ, _-_, _≤_, _<_}
+use Prim.Native.Nat.{ℕ, _≤_, _<_}
 use native.Mathlib.Omega.{arith}
 use mathlib.Core.Bool.{true}
 use mathlib.Core.List.{List}
 use lib.ListN.{length, length-append, length-drop, length-replicate}
 use Rattle.wire.specs.Lists.{Bytes}
-use Rattle.wire.specs.Lengths.{longest, Block, BlockFits}
+use Rattle.wire.specs.Lengths.{Block, BlockFits}
+use Rattle.wire.specs.Verdict.{_▷_}
 use Rattle.wire.specs.declared.verdict.Verdict.{Verdict}
 use Rattle.wire.specs.declared.verdict.Verdict.the-variants.{Fine, Refused}
 use Rattle.wire.specs.declared.verdict.Refusal.{Refusal}
-use Rattle.wire.proofs.Verdicts.{then-fine, fine-then, passed-ltb, passed-leb, pass-ltb, pass-leb}
-use Rattle.link.specs.Syntax.{Link, LinkFits, linkBody}
+use Rattle.wire.proofs.Verdicts.{then-fine, fine-then, passed-leb, pass-leb}
+use Rattle.link.specs.Syntax.{Link, LinkFits}
+use Rattle.link.specs.Records.{linkOf}
+use Rattle.link.specs.declared.LinkInfo.{LinkInfo}
+use Rattle.link.specs.declared.Range.{Range}
+use Rattle.link_draft.specs.Checks.{checkLink}
 use Rattle.frame.specs.Syntax.{limit}
 use Rattle.frame.specs.Reading.{checkedDemands, totalOf}
 use Rattle.rct.specs.declared.RctHeader.{RctHeader}
 use Rattle.rct.specs.Syntax.{Section, sectionLength, fullLength, sealed, RctHeaderFits, Fits}
 use Rattle.rct.specs.Reading.{numberRow, countAt, sectionAt, checked}
 use Rattle.rct.proofs.Checked.{length-sealed, Holds, sealed-holds, holds-sealed, holds-known, holds-total, checked-holds, count-is, number-passed, number-pass}
-use Rattle.rct_edit.specs.Edit.{mostLinks, bare, withLink, withNext, written, fresh, lengthRow, bodyRow, countRow, roomRows, roomVerdict, editVerdict, replaceVerdict, appendVerdict, makeVerdict, Outcome, done, replaced, appended, made}
-use Rattle.rct_edit.proofs.Records.{with-short, next-short, with-fits, next-fits}
-use Rattle.rct_edit.proofs.Outcomes.{Roomy, room-passed}
+use Rattle.rct_edit.specs.Edit.{mostLinks, bare, withLink, withNext, written, fresh, countRow, roomRows, editVerdict, replaceVerdict, appendVerdict, makeVerdict, Outcome, done, replaced, appended, made}
+use Rattle.rct_edit.specs.Making.{checkMaking, loopOf}
+use Rattle.rct_edit.specs.Calls.{making, appending, replacing}
+use Rattle.rct_edit.proofs.Records.{with-fits, next-fits}
+use Rattle.rct_edit.proofs.Outcomes.{Roomy, room-passed, room-pass}
 
 -- ---- room
 
@@ -36,29 +43,17 @@ pub record Passed (xs : List ℕ) (row v : Verdict) (s : Section) : Type 0 where
   pub link-fine : v ≡ Fine
   pub room-for : Room (length xs) s
 
-module _ (xs : List ℕ) (row v : Verdict) (l : Link) (s : Section) where
-  pub edit-passed : editVerdict xs row v l s ≡ Fine → Passed xs row v s
-  unfolding editVerdict roomVerdict
+module _ (xs : List ℕ) (row v : Verdict) (s : Section) where
+  pub edit-passed : editVerdict xs row v s ≡ Fine → Passed xs row v s
   edit-passed a =
       let one = then-fine (checked xs) _ a in
       let two = then-fine row _ (one .1) in
       let three = then-fine v _ (two .1) in
-      let four = then-fine (lengthRow (sectionLength s)) _ (three .1) in
-      let five = then-fine (bodyRow (length (linkBody l))) _ (four .1) in
-      record {
-        section-fine = one .0;
-        row-fine = two .0;
-        link-fine = three .0;
-        room-for = record { fit = passed-ltb _ _ _ _ _ (four .0); enough = passed-ltb _ _ _ _ _ (five .1) };
-      }
+      record { section-fine = one .0; row-fine = two .0; link-fine = three .0; room-for = room-passed (length xs) (sectionLength s) (three .1) }
 
-  pub pass-edit : length (linkBody l) ≤ longest → Passed xs row v s → editVerdict xs row v l s ≡ Fine
-  unfolding editVerdict roomVerdict
-  pass-edit short p =
-      fine-then _ _ (p .section-fine)
-      (fine-then _ _ (p .row-fine)
-      (fine-then _ _ (p .link-fine)
-      (fine-then _ _ (pass-ltb _ _ _ _ _ (p .room-for .fit)) (fine-then _ _ (pass-ltb _ _ _ _ _ short) (pass-ltb _ _ _ _ _ (p .room-for .enough))))))
+  pub pass-edit : Passed xs row v s → editVerdict xs row v s ≡ Fine
+  pass-edit p =
+      fine-then _ _ (p .section-fine) (fine-then _ _ (p .row-fine) (fine-then _ _ (p .link-fine) (room-pass (length xs) (sectionLength s) (p .room-for))))
 
 -- ---- outcomes
 
@@ -96,6 +91,21 @@ appended-verdict xs v l = done-verdict (appendVerdict xs v l) _ _ xs
 pub made-verdict : (xs : List ℕ) (v : Verdict) (s : Section) → made xs v s .verdict ≡ makeVerdict (length xs) v s
 unfolding made
 made-verdict xs v s = done-verdict (makeVerdict (length xs) v s) _ _ xs
+
+-- of what the calls are handed, row by row
+pub replacing-verdict : (xs : List ℕ) (k : ℕ) (t : List ℕ) (i : LinkInfo)
+    → replacing xs k t i .verdict ≡ editVerdict xs (numberRow xs k) (checkLink t i) (withLink (sectionAt xs) k (linkOf t i))
+unfolding replacing replaceVerdict
+replacing-verdict xs k t i = replaced-verdict xs k (checkLink t i) (linkOf t i)
+
+pub appending-verdict : (xs t : List ℕ) (i : LinkInfo) → appending xs t i .verdict ≡ editVerdict xs (countRow xs) (checkLink t i) (withNext (sectionAt xs) (linkOf t i))
+unfolding appending appendVerdict
+appending-verdict xs t i = appended-verdict xs (checkLink t i) (linkOf t i)
+
+pub making-verdict : (xs : List ℕ) (h : RctHeader) (beside : ℕ) (t : List ℕ) (d : Range)
+    → making xs h beside t d .verdict ≡ checkMaking h beside (length t) d ▷ roomRows (length xs) (sectionLength (bare h (loopOf beside t d)))
+unfolding making makeVerdict
+making-verdict xs h beside t d = made-verdict xs (checkMaking h beside (length t) d) (bare h (loopOf beside t d))
 
 -- a call that answers a refusal leaves every byte
 pub replaced-refused : (xs : List ℕ) (k : ℕ) (v : Verdict) (l : Link) (r : Refusal) → replaced xs k v l .verdict ≡ Refused r → Unchanged r xs (replaced xs k v l)
@@ -152,14 +162,14 @@ module _ (v : Verdict) (l : Link) (good : v ≡ Fine → LinkFits l) (s : Sectio
   pub replace-can : (k : ℕ) → replaceVerdict xs k v l ≡ Fine → CanReplace s (length xs) k v l
   unfolding replaceVerdict
   replace-can k a =
-      let p = edit-passed xs (numberRow xs k) v l (withLink (sectionAt xs) k l) a in
+      let p = edit-passed xs (numberRow xs k) v (withLink (sectionAt xs) k l) a in
       record { below = rw (← count) (number-passed xs k (p .row-fine)); link = p .link-fine; room-for = rw (← same) (p .room-for) }
 
   pub can-replace : (k : ℕ) → CanReplace s (length xs) k v l → replaceVerdict xs k v l ≡ Fine
   unfolding replaceVerdict
   can-replace k c =
       rw same
-      (pass-edit xs (numberRow xs k) v l (withLink s k l) (with-short s k l (c .below) (c .room-for .fit))
+      (pass-edit xs (numberRow xs k) v (withLink s k l)
       (record { section-fine = holds-known s xs h .passed; row-fine = number-pass xs k (omega (arith, count, c .below)); link-fine = c .link; room-for = c .room-for }))
 
   pub stepped : (k : ℕ) → CanReplace s (length xs) k v l → Stepped (withLink s k l) (written xs (withLink s k l)) xs (replaced xs k v l)
@@ -171,14 +181,14 @@ module _ (v : Verdict) (l : Link) (good : v ≡ Fine → LinkFits l) (s : Sectio
   pub append-can : appendVerdict xs v l ≡ Fine → CanAppend s (length xs) v l
   unfolding appendVerdict
   append-can a =
-      let p = edit-passed xs (countRow xs) v l (withNext (sectionAt xs) l) a in
+      let p = edit-passed xs (countRow xs) v (withNext (sectionAt xs) l) a in
       record { below = rw (← count) (passed-leb mostLinks (countAt xs) _ _ _ (p .row-fine)); link = p .link-fine; room-for = rw (← same) (p .room-for) }
 
   pub can-append : CanAppend s (length xs) v l → appendVerdict xs v l ≡ Fine
   unfolding appendVerdict
   can-append c =
       rw same
-      (pass-edit xs (countRow xs) v l (withNext s l) (next-short s l (c .room-for .fit))
+      (pass-edit xs (countRow xs) v (withNext s l)
       (record { section-fine = holds-known s xs h .passed; row-fine = pass-leb mostLinks (countAt xs) _ _ _ (omega (arith, count, c .below)); link-fine = c .link; room-for = c .room-for }))
 
   pub append-stepped : CanAppend s (length xs) v l → Stepped (withNext s l) (written xs (withNext s l)) xs (appended xs v l)
@@ -202,8 +212,8 @@ module _ (v : Verdict) (h : RctHeader) (b : Block) (good : v ≡ Fine → Parts 
       record { parts = two .0; room-for = room-passed (length xs) (sectionLength (bare h b)) (two .1) }
 
   pub can-make : CanMake (length xs) v (bare h b) → makeVerdict (length xs) v (bare h b) ≡ Fine
-  unfolding makeVerdict roomRows
-  can-make c = fine-then _ _ (c .parts) (fine-then _ _ (pass-ltb _ _ _ _ _ (c .room-for .fit)) (pass-ltb _ _ _ _ _ (c .room-for .enough)))
+  unfolding makeVerdict
+  can-make c = fine-then _ _ (c .parts) (room-pass (length xs) (sectionLength (bare h b)) (c .room-for))
 
   pub make-stepped : CanMake (length xs) v (bare h b) → Stepped (bare h b) (fresh xs (bare h b)) xs (made xs v (bare h b))
   unfolding made done fresh
@@ -221,11 +231,11 @@ module _ (v : Verdict) (h : RctHeader) (b : Block) (good : v ≡ Fine → Parts 
 
 pub replace-checked : (xs : List ℕ) (k : ℕ) (v : Verdict) (l : Link) → replaceVerdict xs k v l ≡ Fine → checked xs ≡ Fine
 unfolding replaceVerdict
-replace-checked xs k v l f = edit-passed xs (numberRow xs k) v l (withLink (sectionAt xs) k l) f .section-fine
+replace-checked xs k v l f = edit-passed xs (numberRow xs k) v (withLink (sectionAt xs) k l) f .section-fine
 
 pub append-checked : (xs : List ℕ) (v : Verdict) (l : Link) → appendVerdict xs v l ≡ Fine → checked xs ≡ Fine
 unfolding appendVerdict
-append-checked xs v l f = edit-passed xs (countRow xs) v l (withNext (sectionAt xs) l) f .section-fine
+append-checked xs v l f = edit-passed xs (countRow xs) v (withNext (sectionAt xs) l) f .section-fine
 
 module _ (xs : List ℕ) (b : Bytes xs) (v : Verdict) (l : Link) (good : v ≡ Fine → LinkFits l) where
   pub replaced-stepped : (k : ℕ) → replaced xs k v l .verdict ≡ Fine → Stepped (withLink (sectionAt xs) k l) (written xs (withLink (sectionAt xs) k l)) xs (replaced xs k v l)

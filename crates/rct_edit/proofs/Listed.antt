@@ -1,14 +1,14 @@
 -- Which numbers making, appending and replacing can answer at all: making 38, 22, 25, 28, 29; appending 1 to 20, 38, 30, 22 to 25,
--- 28, 29; replacing the same with 21 for 30. So 27 is no answer.
+-- 28, 29; replacing the same with 21 for 30.
 -- Assumes nothing.
 use Prim.Native.Nat.{ℕ}
 use mathlib.Core.Path.{_≡_, refl}
 use mathlib.Core.Bool.{true}
 use mathlib.Core.List.{List, [], _∷_, _++_}
 use lib.ListN.{length}
-use Rattle.wire.specs.Refusals.{noSuchNumber, tooWide, pastText, bodyTooLong, sectionTooLong, noRoom, noMoreLinks}
+use Rattle.wire.specs.Refusals.{noSuchNumber, tooWide, pastText, sectionTooLong, noRoom, noMoreLinks}
 use Rattle.wire.specs.declared.verdict.Verdict.{Verdict}
-use Rattle.wire.proofs.Among.{allListed, Among, among-row, among-then, among-more, Never, among-never}
+use Rattle.wire.proofs.Among.{allListed, Among, among-row, among-then, among-more}
 use Rattle.field.proofs.Checks.{field-listed}
 use Rattle.link.specs.declared.LinkInfo.{LinkInfo}
 use Rattle.link.specs.declared.Range.{Range}
@@ -17,10 +17,10 @@ use Rattle.section_header.proofs.HeaderLaws.{headerChecks, header-listed}
 use Rattle.rct.specs.declared.RctHeader.{RctHeader}
 use Rattle.rct.specs.Syntax.{Section}
 use Rattle.rct.proofs.Listed.{checkedReading, checked-listed, number-listed}
-use Rattle.rct_edit.specs.Edit.{countRow, roomRows}
+use Rattle.rct_edit.specs.Edit.{countRow, roomRows, editVerdict}
 use Rattle.rct_edit.specs.Making.{checkLoop, checkMaking}
 use Rattle.rct_edit.specs.Calls.{making, appending, replacing}
-use Rattle.rct_edit.proofs.BodyRow.{withoutBody, replacing-verdict, appending-verdict, making-verdict}
+use Rattle.rct_edit.proofs.Calls.{replacing-verdict, appending-verdict, making-verdict}
 
 -- ---- the room
 
@@ -51,16 +51,13 @@ making-listed xs h beside t d =
     rw (making-verdict xs h beside t d)
     (among-then makingNumbers _ _ (among-more makingChecks makingNumbers _ refl (checks-listed h beside (length t) d)) (among-more roomNumbers makingNumbers _ refl (room-listed _ _)))
 
-pub making-never-27 : (xs : List ℕ) (h : RctHeader) (beside : ℕ) (t : List ℕ) (d : Range) → Never bodyTooLong (making xs h beside t d .verdict)
-making-never-27 xs h beside t d = among-never makingNumbers _ bodyTooLong (making-listed xs h beside t d) refl
-
 -- ---- appending and replacing, with the number m of the call's own row
 
 abbrev pub editNumbers : ℕ → List ℕ
 editNumbers m = checkedReading ++ (m ∷ (linkChecks ++ roomNumbers))
 
 edit-listed : (ns : List ℕ) (xs : List ℕ) (row v : Verdict) (s : Section) → allListed checkedReading ns ≡ true → allListed linkChecks ns ≡ true → allListed roomNumbers ns ≡ true
-    → Among ns row → Among linkChecks v → Among ns (withoutBody xs row v s)
+    → Among ns row → Among linkChecks v → Among ns (editVerdict xs row v s)
 edit-listed ns xs row v s a b c r l =
     among-then ns _ _ (among-more checkedReading ns _ a (checked-listed xs))
     (among-then ns _ _ r (among-then ns _ _ (among-more linkChecks ns _ b l) (among-more roomNumbers ns _ c (room-listed _ _))))
@@ -77,9 +74,3 @@ pub replacing-listed : (xs : List ℕ) (k : ℕ) (t : List ℕ) (i : LinkInfo) �
 replacing-listed xs k t i =
     rw (replacing-verdict xs k t i)
     (edit-listed (editNumbers noSuchNumber) xs _ _ _ refl refl refl (among-more (noSuchNumber ∷ []) (editNumbers noSuchNumber) _ refl (number-listed xs k)) (check-listed t i))
-
-pub appending-never-27 : (xs t : List ℕ) (i : LinkInfo) → Never bodyTooLong (appending xs t i .verdict)
-appending-never-27 xs t i = among-never (editNumbers noMoreLinks) _ bodyTooLong (appending-listed xs t i) refl
-
-pub replacing-never-27 : (xs : List ℕ) (k : ℕ) (t : List ℕ) (i : LinkInfo) → Never bodyTooLong (replacing xs k t i .verdict)
-replacing-never-27 xs k t i = among-never (editNumbers noSuchNumber) _ bodyTooLong (replacing-listed xs k t i) refl

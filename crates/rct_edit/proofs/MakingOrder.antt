@@ -31,7 +31,7 @@ use Rattle.rct.specs.Syntax.{Section, sectionLength}
 use Rattle.rct_edit.specs.Edit.{bare, roomRows}
 use Rattle.rct_edit.specs.Making.{checkLoop, checkMaking, loopOf}
 use Rattle.rct_edit.specs.Calls.{making}
-use Rattle.rct_edit.proofs.BodyRow.{making-verdict}
+use Rattle.rct_edit.proofs.Calls.{making-verdict}
 use Rattle.rct_edit.proofs.Listed.{roomNumbers, room-listed, makingChecks, checks-listed}
 use Rattle.rct_edit.proofs.Rows.{TooLong, TooLarge, Accepted, long-iff, large-iff, fine-iff}
 

@@ -1,7 +1,7 @@
--- Document 01's order of the calls' refusals, in its own words: of each refusal exactly when it is answered, and what holds
--- then of all that stands before it, so that the answer to every input is settled. "Appending and replacing: 1..20, then 30 or
--- 21, 23, 22, 24, 25, 28, 27, 29. Making: 22, 25, 28, 29." By request 105 the checked reading answers 28 too, of the section that is
--- there. 27 is no answer (Listed); the order of 23, 22, 24, 25 among themselves is link_draft's (Order).
+-- Document 01's order of the calls' refusals: of each refusal exactly when it is answered, and what holds then of all that stands
+-- before it, so that the answer to every input is settled. Appending and replacing: the checked reading's, then 30 or 21, then 23, 22,
+-- 24, 25, 28, 29. Making: 38, 22, 25, 28, 29. By request 105 the checked reading answers 28 too, of the section that is there. The order
+-- of 23, 22, 24, 25 among themselves is link_draft's (Order).
 -- Assumes nothing.
 use Prim.Native.Nat.{ℕ, _≤_, _<_}
 use mathlib.Core.Path.{_≡_, refl, sym}
@@ -28,7 +28,7 @@ use Rattle.rct.proofs.Checked.{number-passed, number-pass}
 use Rattle.rct.proofs.Listed.{checkedReading, number-listed, checked-above}
 use Rattle.rct_edit.specs.Edit.{mostLinks, withLink, withNext, countRow}
 use Rattle.rct_edit.specs.Calls.{appending, replacing}
-use Rattle.rct_edit.proofs.BodyRow.{replacing-verdict, appending-verdict}
+use Rattle.rct_edit.proofs.Calls.{replacing-verdict, appending-verdict}
 use Rattle.rct_edit.proofs.Listed.{roomNumbers, count-listed}
 use Rattle.rct_edit.proofs.Rows.{TooLong, TooLarge, Accepted, LinkRefused, Ready, OwnRow, reading-iff, own-iff, link-iff, edit-long, edit-large, edit-fine}
 

@@ -6,7 +6,7 @@ use mathlib.Core.List.{List}
 use Rattle.wire.specs.declared.verdict.Refusal.{Refusal}
 use Rattle.wire.specs.declared.verdict.Verdict.{Verdict}
 use Rattle.wire.specs.declared.verdict.Verdict.the-variants.{Fine, Refused}
-use Rattle.wire.proofs.Verdicts.{then-fine, passed-ltb}
+use Rattle.wire.proofs.Verdicts.{then-fine, fine-then, passed-ltb, pass-ltb}
 use Rattle.frame.specs.Syntax.{limit, uncounted}
 use Rattle.rct_edit.specs.Edit.{lengthRow, roomRows, Outcome, done}
 use Rattle.rct_edit.specs.Answers.{answer, refusedWith, acceptedWith}
@@ -36,3 +36,7 @@ unfolding roomRows
 room-passed room len e =
     let two = then-fine (lengthRow len) _ e in
     record { fit = passed-ltb _ _ _ _ _ (two .0); enough = passed-ltb _ _ _ _ _ (two .1) }
+
+pub room-pass : (room len : ℕ) → Roomy room len → roomRows room len ≡ Fine
+unfolding roomRows
+room-pass room len r = fine-then (lengthRow len) _ (pass-ltb _ _ _ _ _ (r .fit)) (pass-ltb _ _ _ _ _ (r .enough))

@@ -18,10 +18,9 @@ use Rattle.frame.specs.Syntax.{limit}
 use Rattle.rct.specs.Syntax.{Section, sectionLength, fullLength}
 use Rattle.rct.specs.Reading.{checked}
 use Rattle.rct.proofs.Listed.{checkedReading, checked-listed}
-use Rattle.rct_edit.specs.Edit.{lengthRow, roomRow, roomRows}
+use Rattle.rct_edit.specs.Edit.{lengthRow, roomRow, roomRows, editVerdict}
 use Rattle.rct_edit.proofs.Outcomes.{room-passed}
 use Rattle.rct_edit.proofs.Calls.{Room}
-use Rattle.rct_edit.proofs.BodyRow.{withoutBody}
 use Rattle.rct_edit.proofs.Listed.{roomNumbers, room-listed}
 
 -- ---- 28, 29 and no refusal, of a section s that is to be in a buffer of so many bytes; Q is that all rows before are passed
@@ -120,7 +119,7 @@ pub record OwnRow (row : Verdict) (P : Type 0) (m : ℕ) : Type 0 where
 
 module _ (xs : List ℕ) (row v : Verdict) (s : Section) (P : Type 0) (m : ℕ) (o : OwnRow row P m) (links : Among linkChecks v) where
   abbrev rows : Verdict
-  rows = withoutBody xs row v s
+  rows = editVerdict xs row v s
 
   abbrev room : Verdict
   room = roomRows (length xs) (sectionLength s)

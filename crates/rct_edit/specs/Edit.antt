@@ -4,12 +4,12 @@ use Prim.Native.Nat.{ℕ, _+_, _-_, max}
 use mathlib.Core.List.{List, [], _∷_, _++_}
 use lib.Dec.{ltb, leb}
 use lib.ListN.{length, set, drop, replicate}
-use Rattle.wire.specs.Lengths.{longest, Block}
-use Rattle.wire.specs.Refusals.{bodyTooLong, sectionTooLong, noRoom, noMoreLinks}
+use Rattle.wire.specs.Lengths.{Block}
+use Rattle.wire.specs.Refusals.{sectionTooLong, noRoom, noMoreLinks}
 use Rattle.wire.specs.Verdict.{refuse, _▷_}
 use Rattle.wire.specs.declared.verdict.Verdict.{Verdict}
 use Rattle.wire.specs.declared.verdict.Verdict.the-variants.{Fine, Refused}
-use Rattle.link.specs.Syntax.{Link, linkBody}
+use Rattle.link.specs.Syntax.{Link}
 use Rattle.frame.specs.Syntax.{limit, uncounted}
 use Rattle.frame.specs.Reading.{totalOf}
 use Rattle.rct.specs.declared.RctHeader.{RctHeader}
@@ -51,37 +51,29 @@ fresh xs s = sealed s ++ drop (fullLength s) xs
 
 -- ---- the verdicts, in document 01's order
 
--- 28 and 29 of a section_length, and 27 of the length of a link's body
+-- 28 and 29 of a section_length
 abbrev pub lengthRow : ℕ → Verdict
 lengthRow len = refuse (ltb limit len) sectionTooLong len limit
-
-abbrev pub bodyRow : ℕ → Verdict
-bodyRow n = refuse (ltb longest n) bodyTooLong n longest
 
 abbrev pub roomRow : ℕ → ℕ → Verdict
 roomRow room len = refuse (ltb room (uncounted + len)) noRoom (uncounted + len) room
 
--- 28, then 29: all that is asked where there is no link, and all that can be answered where there is one
 unfoldable pub roomRows : ℕ → ℕ → Verdict
 roomRows room len = lengthRow len ▷ roomRow room len
-
--- 28, 27, 29 of the section s with the link l in it
-unfoldable pub roomVerdict : ℕ → Link → Section → Verdict
-roomVerdict room l s = lengthRow (sectionLength s) ▷ bodyRow (length (linkBody l)) ▷ roomRow room (sectionLength s)
 
 -- there are as many links as can be
 abbrev pub countRow : List ℕ → Verdict
 countRow xs = refuse (leb mostLinks (countAt xs)) noMoreLinks mostLinks 0
 
--- an edit of the section in xs, which would become s with the link l in it: the checked reading, the call's own row, the verdict v on the link, and the room
-unfoldable pub editVerdict : List ℕ → Verdict → Verdict → Link → Section → Verdict
-editVerdict xs row v l s = checked xs ▷ row ▷ v ▷ roomVerdict (length xs) l s
+-- an edit of the section in xs, which would become s: the checked reading, the call's own row, the verdict v on the link, and the room
+abbrev pub editVerdict : List ℕ → Verdict → Verdict → Section → Verdict
+editVerdict xs row v s = checked xs ▷ row ▷ v ▷ roomRows (length xs) (sectionLength s)
 
 unfoldable pub replaceVerdict : List ℕ → ℕ → Verdict → Link → Verdict
-replaceVerdict xs k v l = editVerdict xs (numberRow xs k) v l (withLink (sectionAt xs) k l)
+replaceVerdict xs k v l = editVerdict xs (numberRow xs k) v (withLink (sectionAt xs) k l)
 
 unfoldable pub appendVerdict : List ℕ → Verdict → Link → Verdict
-appendVerdict xs v l = editVerdict xs (countRow xs) v l (withNext (sectionAt xs) l)
+appendVerdict xs v l = editVerdict xs (countRow xs) v (withNext (sectionAt xs) l)
 
 -- of a section with no links
 unfoldable pub makeVerdict : ℕ → Verdict → Section → Verdict

@@ -31,7 +31,7 @@ use Rattle.rct.proofs.Accepted.{place-is, total-is}
 use Rattle.rct.specs.Reading.{numberRow, countAt, loopPlace, sectionAt, payloadVerdict, reading, checked}
 use Rattle.rct.proofs.Checked.{count-is, number-pass}
 use Rattle.rct_walker.proofs.Walks.{SpanOf}
-use Rattle.rct_edit.specs.Edit.{mostLinks, filler, withLink, withNext, written, countRow, roomRows, editVerdict, replaceVerdict, appendVerdict, Outcome, done, replaced, appended}
+use Rattle.rct_edit.specs.Edit.{mostLinks, filler, withLink, withNext, written, countRow, roomRows, replaceVerdict, appendVerdict, Outcome, done, replaced, appended}
 use Rattle.rct_edit.specs.Answers.{splicedBy}
 use Rattle.rct_edit.specs.Rehead.{rehead}
 use Rattle.frame.specs.Ending.{sealedAt}
@@ -43,7 +43,6 @@ use Rattle.rct_edit.specs.declared.Spliced.{Spliced}
 use Rattle.rct_edit.specs.declared.Spliced.the-variants as spliced
 use Rattle.rct_edit.proofs.Outcomes.{Came, done-stops, room-passed}
 use Rattle.rct_edit.proofs.Placed.{refused-placed, came-placed}
-use Rattle.rct_edit.proofs.BodyRow.{replace-without-27, append-without-27}
 use Rattle.rct_editor.specs.Splicing.{filledUp, entryBytes, Spot, lengthBetween, spliced, finished, betweenVerdict, betweenBytes, between}
 use Rattle.rct_edit.specs.Calls.{replacing, appending, appendingPlaced, replacingPlaced}
 use Rattle.rct_editor.proofs.Sizes.{entry-size}
@@ -152,13 +151,13 @@ module _ (xs : List ℕ) (t : List ℕ) (k : LinkInfo) where
   append-stops r w = refused-placed _ xs _ _ _ r (done-stops _ _ _ xs r _ w refl)
 
   pub append-unread : (r : Refusal) → checked xs ≡ Refused r → Appends (spliced.Refused r) xs
-  append-unread r c = append-stops r (unfold appendVerdict editVerdict in refused-then (checked xs) _ r c)
+  append-unread r c = append-stops r (unfold appendVerdict in refused-then (checked xs) _ r c)
 
   module _ (c : checked xs ≡ Fine) where
     pub append-full : (n : ℕ) → mostLinks ≤ countAt xs → n ≡ mostLinks → Appends (spliced.Refused (record { number = noMoreLinks; first = n; second = 0 })) xs
     append-full n h e =
         rw e
-        (append-stops _ (unfold appendVerdict editVerdict in go-on (checked xs) _ c ∙ stop (countRow xs) _ _ _ _ (refused-row _ _ _ _ (le-leb mostLinks (countAt xs) h))))
+        (append-stops _ (unfold appendVerdict in go-on (checked xs) _ c ∙ stop (countRow xs) _ _ _ _ (refused-row _ _ _ _ (le-leb mostLinks (countAt xs) h))))
 
   -- the loop stands at q
   module _ (c : checked xs ≡ Fine) (q : ℕ) (at : loopPlace xs ≡ q) (b : Bytes xs) where
@@ -174,7 +173,7 @@ module _ (xs : List ℕ) (t : List ℕ) (k : LinkInfo) where
         between-is xs (frame-fine xs c) t k (withNext (sectionAt xs) (linkOf t k)) q q (countAt xs + 1)
         behind (length-next (sectionAt xs) (linkOf t k) ∙ ap (λ n. n + 1) (count-is xs))
         ∙ ap (λ v. done v (fullLength (withNext (sectionAt xs) (linkOf t k))) (written xs (withNext (sectionAt xs) (linkOf t k))) xs)
-        (sym (append-without-27 xs (checkLink t k) (linkOf t k) ∙ go-on (checked xs) _ c ∙ go-on (countRow xs) _ (fine-row _ _ _ _ (lt-leb mostLinks (countAt xs) h))))
+        (unfold appendVerdict in sym (go-on (checked xs) _ c ∙ go-on (countRow xs) _ (fine-row _ _ _ _ (lt-leb mostLinks (countAt xs) h))))
 
     -- with the numbers as the walk found them
     pub append-goes : (n total : ℕ) (e : Edited) (p : Spliced) (ys : List ℕ) → countAt xs ≡ n → totalOf xs ≡ total → n < mostLinks
@@ -197,14 +196,14 @@ module _ (xs : List ℕ) (number : ℕ) (t : List ℕ) (k : LinkInfo) where
   replace-stops r w = refused-placed _ xs _ _ _ r (done-stops _ _ _ xs r _ w refl)
 
   pub replace-unread : (r : Refusal) → checked xs ≡ Refused r → Replaces (spliced.Refused r) xs
-  replace-unread r c = replace-stops r (unfold replaceVerdict editVerdict in refused-then (checked xs) _ r c)
+  replace-unread r c = replace-stops r (unfold replaceVerdict in refused-then (checked xs) _ r c)
 
   module _ (c : checked xs ≡ Fine) where
     pub replace-none : (n : ℕ) (p : Spliced) → countAt xs ≡ n → n ≤ number → p ≡ spliced.Refused (record { number = noSuchNumber; first = number; second = n }) → Replaces p xs
     replace-none n p e h is =
         rw (is, ← e)
         (replace-stops _
-        (unfold replaceVerdict editVerdict numberRow in go-on (checked xs) _ c ∙ stop (numberRow xs number) _ _ _ _ (refused-row _ _ _ _ (le-leb (countAt xs) number (omega arith)))))
+        (unfold replaceVerdict numberRow in go-on (checked xs) _ c ∙ stop (numberRow xs number) _ _ _ _ (refused-row _ _ _ _ (le-leb (countAt xs) number (omega arith)))))
 
   -- there is such a link, and its entry stands from p to q
   module _ (c : checked xs ≡ Fine) (p q : ℕ) (f : SpanOf xs number p q) (b : Bytes xs) (h : number < countAt xs) where
@@ -220,7 +219,7 @@ module _ (xs : List ℕ) (number : ℕ) (t : List ℕ) (k : LinkInfo) where
         between-is xs (frame-fine xs c) t k (withLink (sectionAt xs) number (linkOf t k)) p q (countAt xs)
         inside (length-with (sectionAt xs) number (linkOf t k) ∙ count-is xs)
         ∙ ap (λ v. done v (fullLength (withLink (sectionAt xs) number (linkOf t k))) (written xs (withLink (sectionAt xs) number (linkOf t k))) xs)
-        (sym (replace-without-27 xs number (checkLink t k) (linkOf t k) ∙ go-on (checked xs) _ c ∙ go-on (numberRow xs number) _ (number-pass xs number h)))
+        (unfold replaceVerdict in sym (go-on (checked xs) _ c ∙ go-on (numberRow xs number) _ (number-pass xs number h)))
 
     pub replace-goes : (n total : ℕ) (e : Edited) (s : Spliced) (ys : List ℕ) → countAt xs ≡ n → totalOf xs ≡ total
         → Came (between xs p q n t k) e ys → s ≡ splicedBy e total n p → Replaces s ys

@@ -241,7 +241,7 @@ module _ (xs t : List ℕ) (a : LinkInfo) (b : Bytes xs) (i : RctIndex) (f : Set
       → Anew i (replacingIndexed xs k t a i .index) k (length (sectionAt xs .links)) (entryPlace (sectionAt xs) k) (fullLength (sectionAt xs)) (fullLength (withLink (sectionAt xs) k (linkOf t a))) (linkMarks (linkOf t a))
   unfolding replacing replacingIndexed replaceVerdict
   replaced-anew k e =
-      let p = edit-passed xs (numberRow xs k) (checkLink t a) (linkOf t a) (withLink (sectionAt xs) k (linkOf t a)) (sym (replaced-verdict xs k (checkLink t a) (linkOf t a)) ∙ e) in
+      let p = edit-passed xs (numberRow xs k) (checkLink t a) (withLink (sectionAt xs) k (linkOf t a)) (sym (replaced-verdict xs k (checkLink t a) (linkOf t a)) ∙ e) in
       let two = small (p .section-fine) in
       rw (brought _ _ i e) (anew i k _ _ _ _ _ f (omega (arith, number-passed xs k (p .row-fine), count-is xs, two .0)) (two .1))
 
@@ -249,7 +249,7 @@ module _ (xs t : List ℕ) (a : LinkInfo) (b : Bytes xs) (i : RctIndex) (f : Set
       → Anew i (appendingIndexed xs t a i .index) (length (sectionAt xs .links)) (length (sectionAt xs .links)) (entryPlace (sectionAt xs) (length (sectionAt xs .links))) (fullLength (sectionAt xs)) (fullLength (withNext (sectionAt xs) (linkOf t a))) (linkMarks (linkOf t a))
   unfolding appending appendingIndexed appendVerdict
   appended-anew e =
-      let p = edit-passed xs (countRow xs) (checkLink t a) (linkOf t a) (withNext (sectionAt xs) (linkOf t a)) (sym (appended-verdict xs (checkLink t a) (linkOf t a)) ∙ e) in
+      let p = edit-passed xs (countRow xs) (checkLink t a) (withNext (sectionAt xs) (linkOf t a)) (sym (appended-verdict xs (checkLink t a) (linkOf t a)) ∙ e) in
       let two = small (p .section-fine) in
       rw (brought _ _ i e) (anew i _ _ _ _ _ _ f (omega (arith, two .0)) (two .1))
 

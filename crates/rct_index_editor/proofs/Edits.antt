@@ -11,7 +11,6 @@ use Rattle.wire.specs.declared.verdict.Verdict.{Verdict}
 use Rattle.wire.specs.declared.verdict.Verdict.the-variants.{Fine, Refused}
 use Rattle.wire.proofs.Lists.{bytes-at}
 use Rattle.wire.proofs.Verdicts.{passed-leb}
-use Rattle.link.specs.Syntax.{Link}
 use Rattle.link.specs.Records.{linkOf}
 use Rattle.link.specs.declared.LinkInfo.{LinkInfo}
 use Rattle.link_draft.specs.Checks.{checkLink}
@@ -70,10 +69,10 @@ pub record Told (o : Outcome) (s : Section) (k : ℕ) (s′ : Section) (total be
   pub numbers : Numbers k count at before total
 
 -- an edit with its own row, which lets through only numbers below the most
-module _ (xs : List ℕ) (b : Bytes xs) (row v : Verdict) (l : Link) (k : ℕ) (s′ : Section) (below : row ≡ Fine → k < mostLinks) where
-  numbers : editVerdict xs row v l s′ ≡ Fine → Numbers k (length (sectionAt xs .links)) (entryPlace (sectionAt xs) k) (fullLength (sectionAt xs)) (fullLength s′)
+module _ (xs : List ℕ) (b : Bytes xs) (row v : Verdict) (k : ℕ) (s′ : Section) (below : row ≡ Fine → k < mostLinks) where
+  numbers : editVerdict xs row v s′ ≡ Fine → Numbers k (length (sectionAt xs .links)) (entryPlace (sectionAt xs) k) (fullLength (sectionAt xs)) (fullLength s′)
   numbers f =
-      let p = edit-passed xs row v l s′ f in
+      let p = edit-passed xs row v s′ f in
       let fits = checked-holds xs b (p .section-fine) .fits in
       record {
         number = below (p .row-fine);
@@ -83,11 +82,11 @@ module _ (xs : List ℕ) (b : Bytes xs) (row v : Verdict) (l : Link) (k : ℕ) (
         total = omega (arith, p .room-for .fit);
       }
 
-  edit-told : (new : List ℕ) (total before count at : ℕ) → placed (done (editVerdict xs row v l s′) (fullLength s′) new xs) (sectionAt xs) k ≡ spliced.Done total before count at
-      → Told (done (editVerdict xs row v l s′) (fullLength s′) new xs) (sectionAt xs) k s′ total before count at
+  edit-told : (new : List ℕ) (total before count at : ℕ) → placed (done (editVerdict xs row v s′) (fullLength s′) new xs) (sectionAt xs) k ≡ spliced.Done total before count at
+      → Told (done (editVerdict xs row v s′) (fullLength s′) new xs) (sectionAt xs) k s′ total before count at
   edit-told new total before count at e =
       let d = placed-done _ _ _ _ _ _ _ _ e in
-      let f = sym (done-verdict (editVerdict xs row v l s′) (fullLength s′) new xs) ∙ d .fine in
+      let f = sym (done-verdict (editVerdict xs row v s′) (fullLength s′) new xs) ∙ d .fine in
       let size = sym (done-total _ _ new xs f) ∙ d .total in
       record {
         accepted = λ i. record { verdict = d .fine i; total = d .total i };
@@ -117,7 +116,7 @@ module _ (xs t : List ℕ) (a : LinkInfo) (i : RctIndex) where
     append-told : Told (appending xs t a) (sectionAt xs) (length (sectionAt xs .links)) next total before count at
     unfolding appendingPlaced appending appended appendVerdict
     append-told =
-        edit-told xs b (countRow xs) (checkLink t a) (linkOf t a) (length (sectionAt xs .links)) next
+        edit-told xs b (countRow xs) (checkLink t a) (length (sectionAt xs .links)) next
         (λ f. omega (arith, count-is xs, passed-leb mostLinks (countAt xs) _ _ _ f)) _ total before count at e
 
     pub append-numbers : Numbers count count at before total
@@ -142,7 +141,7 @@ module _ (xs : List ℕ) (k : ℕ) (t : List ℕ) (a : LinkInfo) (i : RctIndex) 
     replace-told : Told (replacing xs k t a) (sectionAt xs) k other total before count at
     unfolding replacingPlaced replacing replaced replaceVerdict
     replace-told =
-        edit-told xs b (numberRow xs k) (checkLink t a) (linkOf t a) k other
+        edit-told xs b (numberRow xs k) (checkLink t a) k other
         (λ f. omega (arith, number-passed xs k f, bytes-at xs linkCountPlace b)) _ total before count at e
 
     pub replace-numbers : Numbers k count at before total

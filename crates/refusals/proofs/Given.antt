@@ -1,10 +1,9 @@
 -- What it is to answer a number of the fixed list alone.
 -- Assumes nothing.
 use Prim.Native.Nat.{ℕ}
-use mathlib.Core.Path.{_≡_, refl}
+use mathlib.Core.Path.{_≡_}
 use mathlib.Core.Bool.{true, false}
 use mathlib.Core.List.{List}
-use Rattle.wire.specs.Refusals.{bodyTooLong}
 use Rattle.wire.specs.declared.verdict.Refusal.{Refusal}
 use Rattle.wire.specs.declared.verdict.Verdict.{Verdict}
 use Rattle.wire.proofs.Among.{listed, allListed, Among, listed-more, among-more, Never, among-never}
@@ -27,7 +26,3 @@ on-list ns r a p = listed-more ns fixedList (r .number) a p
 -- a number that is not on the list is the answer of no call
 pub never : (n : ℕ) (v : Verdict) → listed n fixedList ≡ false → Given v → Never n v
 never n v h g = among-never fixedList v n g h
-
--- 27 is not
-pub never-27 : (v : Verdict) → Given v → Never bodyTooLong v
-never-27 v g = never bodyTooLong v refl g

@@ -85,11 +85,14 @@ pub item-from-given : (xs : List ℕ) (p : ℕ) (r : Refusal) → itemFrom xs p 
 item-from-given xs p r e = on-list link.stepReading r refl (link.step-listed xs p r e)
 
 -- the item reader's steps, which are items by number
-pub next-given : (xs : List ℕ) (n : ℕ) (r : Refusal) → stepped xs n .item ≡ item.Refused r → OnList r
-next-given xs n r e = read-item-given 0 xs n r e
+pub next-given : (xs : List ℕ) (n : ℕ) (r : Refusal) → itemRead 0 xs n ≡ item.Refused r → OnList r
+next-given = read-item-given 0
+
+pub step-from-given : (xs : List ℕ) (n : ℕ) (r : Refusal) → stepped xs n .item ≡ item.Refused r → OnList r
+step-from-given = next-given
 
 pub item-after-given : (xs : List ℕ) (n : ℕ) (r : Refusal) → itemAfter xs n ≡ item.Refused r → OnList r
-item-after-given xs n r e = read-item-given 0 xs (numberAfter xs n) r e
+item-after-given xs n = next-given xs (numberAfter xs n)
 
 -- ---- a link's record
 

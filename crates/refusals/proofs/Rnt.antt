@@ -38,7 +38,7 @@ module _ (xs : List ℕ) (r : Refusal) where
   pub read-authority-given : (k j : ℕ) → numberedAuthority xs k j ≡ numbered-authority.Refused r → OnList r
   read-authority-given k j e = on-list numberedReading r refl (read-authority-listed xs k j r e)
 
-  -- ---- walks
+  -- ---- walks; a provider and an authority by their places
 
   pub provider-from-given : (e p : ℕ) → providerFrom xs e p ≡ provider.Refused r → OnList r
   provider-from-given e p h = on-list headReading r refl (provider-from-listed xs e p r h)

@@ -1,4 +1,4 @@
--- The refusal numbers of document 01, and of document 02's requests, by name. There is no 26, and of 31 to 39 only 38 and 39 as yet.
+-- The refusal numbers of document 01, and of document 02's requests, by name. They are not consecutive: some are never given (docs/DECISIONS.md), and of 31 to 39 there are only 38 and 39 as yet.
 -- Assumes nothing.
 use Prim.Native.Nat.{ℕ}
 
@@ -101,10 +101,6 @@ againstRule = 24
 -- a range goes past the lent text
 abbrev pub pastText : ℕ
 pastText = 25
-
--- a link's body is longer than its length field can tell
-abbrev pub bodyTooLong : ℕ
-bodyTooLong = 27
 
 -- section_length is above the limit
 abbrev pub sectionTooLong : ℕ

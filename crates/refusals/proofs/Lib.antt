@@ -4,5 +4,6 @@ pub mod Frames
 pub mod Rct
 pub mod Rnt
 pub mod Received
+pub mod Numbers
 -- what they are said with
 pub mod Given

@@ -1,16 +1,19 @@
--- What the calls answer that every table has. A call that is handed the number of a refusal, or a verdict, has no other of its own.
+-- What the calls answer that every table has. A call that is handed a number to refuse with, or a verdict, answers that or a number of the
+-- list: it has no other of its own.
 -- Assumes nothing.
 use Prim.Native.Nat.{ℕ}
 use mathlib.Core.Path.{_≡_, refl}
-use mathlib.Core.Bool.{true}
+use mathlib.Core.Bool.{Bool, true, false}
 use mathlib.Core.List.{List, [], _∷_}
+use lib.Dec.{eqb}
 use Rattle.wire.specs.Lengths.{longRow, lastRows}
-use Rattle.wire.specs.Refusals.{wrongCrc}
+use Rattle.wire.specs.Choice.{pick}
+use Rattle.wire.specs.Refusals.{tooShort, wrongLength, wrongCrc, sectionTooLong, noSyntaxIndicator}
 use Rattle.wire.specs.Verdict.{reached, _▷_}
 use Rattle.wire.specs.declared.verdict.Reached.the-variants as reach
 use Rattle.wire.specs.declared.verdict.Refusal.{Refusal}
 use Rattle.wire.specs.declared.verdict.Verdict.{Verdict}
-use Rattle.wire.proofs.Among.{listed, among-row, among-then}
+use Rattle.wire.proofs.Among.{listed, allListed, listed-here, listed-behind, listed-more, Among, among-row, among-then}
 use Rattle.wire.proofs.Verdicts.{reached-refused}
 use Rattle.section_header.specs.Checks.{checkHeader}
 use Rattle.section_header.specs.declared.SectionHeader.{SectionHeader}
@@ -19,27 +22,42 @@ use Rattle.frame.specs.Reading.{totalOf, opened}
 use Rattle.frame.specs.Ending.{crcVerdict}
 use Rattle.frame.specs.declared.Demands.{Demands}
 use Rattle.frame.specs.declared.Table.{Table}
-use Rattle.frame.proofs.Listed.{demandedOpening, demanded-listed, crc-verdict-listed}
+use Rattle.frame.proofs.Listed.{demanded-listed, crc-verdict-listed}
 use Rattle.refusals.specs.FixedList.{fixedList}
-use Rattle.refusals.proofs.Given.{Given, OnList, given, on-list}
+use Rattle.refusals.proofs.Given.{Given, given}
 
--- ---- handed on
+-- ---- what is handed in, or on the list
 
-pub first-of-given : (a b : Verdict) → Given a → Given b → Given (a ▷ b)
-first-of-given a b p q = among-then fixedList a b p q
+-- the first of two verdicts hands on
+pub first-of-given : (ns : List ℕ) (a b : Verdict) → Among ns a → Among ns b → Among ns (a ▷ b)
+first-of-given ns a b p q = among-then ns a b p q
 
-pub check-left-given : (long length left : ℕ) → listed long fixedList ≡ true → Given (longRow long length left)
+pub check-left-given : (long length left : ℕ) → Among (long ∷ fixedList) (longRow long length left)
 unfolding longRow
-check-left-given long length left h = among-row fixedList _ long _ _ h
+check-left-given long length left = among-row (long ∷ fixedList) _ long _ _ (listed-here long fixedList)
 
-pub check-last-given : (long slack length left : ℕ) → listed long fixedList ≡ true → listed slack fixedList ≡ true → Given (lastRows long slack length left)
-unfolding lastRows
-check-last-given long slack length left h k = first-of-given _ _ (check-left-given long length left h) (among-row fixedList _ slack _ _ k)
+pub check-last-given : (long slack length left : ℕ) → Among (long ∷ slack ∷ fixedList) (lastRows long slack length left)
+unfolding lastRows longRow
+check-last-given long slack length left =
+    let ns : List ℕ = long ∷ slack ∷ fixedList in
+    first-of-given ns _ _ (among-row ns _ long _ _ (listed-here long (slack ∷ fixedList)))
+    (among-row ns _ slack _ _ (listed-behind slack long (slack ∷ fixedList) (listed-here slack fixedList)))
 
--- ---- a section of any table
+-- the number that a list begins with, or one of a longer rest
+or-more : (n m : ℕ) (ns ms : List ℕ) → allListed ns ms ≡ true → listed n (m ∷ ns) ≡ true → listed n (m ∷ ms) ≡ true
+or-more n m ns ms a e = by (eqb n m) e
+  where
+    by : (b : Bool) → pick b true (listed n ns) ≡ true → pick b true (listed n ms) ≡ true
+    by true h = refl
+    by false h = listed-more ns ms n a h
 
-pub open-given : (t : Table) (d : Demands) (xs : List ℕ) (r : Refusal) → listed (t .other) fixedList ≡ true → reached (opened t d xs) (totalOf xs) ≡ reach.Refused r → OnList r
-open-given t d xs r h e = on-list (demandedOpening t) r (rw h) (demanded-listed t d xs r (reached-refused _ _ r e))
+-- a section of any table: the table's own number for another table, or one of the list
+pub open-given : (t : Table) (d : Demands) (xs : List ℕ) (r : Refusal) → reached (opened t d xs) (totalOf xs) ≡ reach.Refused r → listed (r .number) (t .other ∷ fixedList) ≡ true
+open-given t d xs r e =
+    or-more (r .number) (t .other) (tooShort ∷ wrongLength ∷ noSyntaxIndicator ∷ sectionTooLong ∷ []) fixedList refl
+    (demanded-listed t d xs r (reached-refused _ _ r e))
+
+-- ---- a section's header and its CRC
 
 pub check-crc-given : (xs : List ℕ) (e : ℕ) → Given (crcVerdict xs e)
 check-crc-given xs e = given (wrongCrc ∷ []) _ refl (crc-verdict-listed xs e)

@@ -1,8 +1,8 @@
 -- What it is to answer a number of the fixed list alone.
 -- Assumes nothing.
 use Prim.Native.Nat.{ℕ}
-use mathlib.Core.Path.{_≡_}
-use mathlib.Core.Bool.{true, false}
+use mathlib.Core.Path.{_≡_, sym, ap, _∙_}
+use mathlib.Core.Bool.{true, false, false≢true}
 use mathlib.Core.List.{List}
 use Rattle.wire.specs.declared.verdict.Refusal.{Refusal}
 use Rattle.wire.specs.declared.verdict.Verdict.{Verdict}
@@ -23,6 +23,9 @@ given ns v a p = among-more ns fixedList v a p
 pub on-list : (ns : List ℕ) (r : Refusal) → allListed ns fixedList ≡ true → listed (r .number) ns ≡ true → OnList r
 on-list ns r a p = listed-more ns fixedList (r .number) a p
 
--- a number that is not on the list is the answer of no call
+-- a number that is not on the list is the answer of no call, be the answer a verdict or a refusal of another type
 pub never : (n : ℕ) (v : Verdict) → listed n fixedList ≡ false → Given v → Never n v
 never n v h g = among-never fixedList v n g h
+
+pub never-refused : (n : ℕ) (r : Refusal) → listed n fixedList ≡ false → OnList r → r .number ≡ n → ⊥
+never-refused n r h o e = false≢true (sym h ∙ ap (λ k. listed k fixedList) (sym e) ∙ o)

@@ -2,9 +2,11 @@
 -- Assumes nothing.
 use Prim.Native.Nat.{ℕ}
 use mathlib.Core.Path.{_≡_, refl}
-use mathlib.Core.List.{List}
+use mathlib.Core.List.{List, _∷_}
 use native.Mathlib.Omega.{arith}
-use Rattle.wire.specs.Refusals.{loopCut, loopTooLong, sectionSlack, noSuchNumber, noMoreLinks}
+use Rattle.wire.specs.Refusals.{notRct, loopCut, loopTooLong, sectionSlack, noSuchNumber, noMoreLinks}
+use Rattle.wire.specs.Verdict.{reached}
+use Rattle.wire.specs.declared.verdict.Reached.the-variants as reach
 use Rattle.wire.specs.declared.verdict.Refusal.{Refusal}
 use Rattle.wire.specs.declared.verdict.Verdict.{Verdict}
 use Rattle.wire.specs.declared.verdict.Verdict.the-variants.{Fine, Refused}
@@ -12,7 +14,9 @@ use Rattle.wire.proofs.Among.{last-listed}
 use Rattle.link.specs.declared.LinkInfo.{LinkInfo}
 use Rattle.link.specs.declared.Range.{Range}
 use Rattle.link.specs.declared.reading.ItemRead.the-variants as item
+use Rattle.frame.specs.Reading.{totalOf, opened}
 use Rattle.frame.specs.declared.Demands.{Demands}
+use Rattle.rct.specs.Syntax.{rct}
 use Rattle.rct.specs.Reading.{loopVerdict, reading, plain, checked}
 use Rattle.rct.specs.declared.RctHeader.{RctHeader}
 use Rattle.rct.proofs.Listed.{plainReading, demandedReading, checkedReading, entryReading}
@@ -37,7 +41,13 @@ use Rattle.rct_index.specs.Editing.{appendingIndexed, replacingIndexed}
 use Rattle.rct_index.specs.declared.RctIndex.{RctIndex}
 use Rattle.rct_index.proofs.Built.{buildReading, build-listed}
 use Rattle.refusals.specs.FixedList.{fixedList}
+use Rattle.refusals.proofs.Frames.{open-given}
 use Rattle.refusals.proofs.Given.{Given, OnList, given, on-list}
+
+-- ---- the opening, by this table
+
+pub open-rct-given : (d : Demands) (xs : List ℕ) (r : Refusal) → reached (opened rct d xs) (totalOf xs) ≡ reach.Refused r → OnList r
+open-rct-given d xs r e = on-list (notRct ∷ fixedList) r refl (open-given rct d xs r e)
 
 -- ---- reading
 

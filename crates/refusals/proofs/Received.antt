@@ -2,15 +2,14 @@
 -- receive cannot be put on the list.
 -- Assumes nothing.
 use Prim.Native.Nat.{ℕ, zero, suc, _+_}
-use mathlib.Core.Path.{_≡_, refl}
+use mathlib.Core.Path.{_≡_, refl, ap}
 use mathlib.Core.Bool.{true, false, xor}
 use mathlib.Core.List.{List, [], _∷_, _++_}
 use mathlib.Core.Option.{none}
 use native.Mathlib.Omega.{arith}
 use lib.ListN.{length, drop, replicate}
 use Rattle.wire.specs.Lists.{Bytes}
-use Rattle.wire.specs.Lengths.{lengthBytes, blockBytes, blockRows, lastVerdict, longRow}
-use Rattle.wire.specs.Runs.{placesTo}
+use Rattle.wire.specs.Lengths.{lengthBytes, blockBytes, blockRows, lastVerdict}
 use Rattle.wire.specs.Verdict.{bad, refuse, _▷_}
 use Rattle.wire.proofs.Lists.{bytes-append}
 use Rattle.field.specs.Fields.{checkField}
@@ -38,6 +37,7 @@ use Rattle.frame.specs.Reading.{checkedDemands, opened, computedAt, crcRow, rea
 use Rattle.rct.specs.Reading as rct
 use Rattle.rct.specs.Syntax.{Section, newRctHeader, EntryFits, LinksFit, Fits, payload, sectionLength, headBytes, sectionBytes, sealed}
 use Rattle.rct.specs.declared.RctHeader.{RctHeader}
+use Rattle.rct.proofs.Rows as rct-rows
 use Rattle.rct.proofs.Checked.{sealed-holds, holds-known, sealed-bytes}
 use Rattle.rct_reader.specs.Sections as rct-section
 use Rattle.rct_links.specs.Links.{linkRows, numberedLink}
@@ -46,9 +46,11 @@ use Rattle.rct_edit.specs.Making.{checkLoop, checkMaking}
 use Rattle.rct_edit.specs.Calls.{making, appending}
 use Rattle.rct_edit.proofs.Order.{appending-count}
 use Rattle.rnt.specs.Reading as rnt
+use Rattle.rnt.proofs.Rows as rnt-rows
 use Rattle.rnt_reader.specs.Sections as rnt-section
 use Rattle.rnt_reader.specs.declared.RntRead.the-variants as rnt-read
 use Rattle.refusals.specs.FixedList.{fixedList}
+use Rattle.refusals.proofs.Numbers.{from}
 
 -- a call that answers n, with the figures f and g
 pub data Received (n : ℕ) : Type 0 where
@@ -67,7 +69,35 @@ pub data AllReceived : List ℕ → Type 0 where
   all : AllReceived []
   _&_ : {n : ℕ} {ns : List ℕ} → Received n → AllReceived ns → AllReceived (n ∷ ns)
 
--- ---- what the calls are given
+-- ---- rows of a reading that stand already, as what its call answers
+
+module _ {n f g : ℕ} (xs : List ℕ) where
+  checked-row : rct.checked xs ≡ bad n f g → Received n
+  unfolding rct-section.sectionRead
+  checked-row e = check-section xs f g (ap (λ v. rct-section.sectionRead v xs .verdict) e)
+
+  rnt-row : rnt.plain xs ≡ bad n f g → Received n
+  unfolding rnt-section.sectionRead
+  rnt-row e = read-rnt xs f g (ap (λ v. rnt-section.sectionRead v xs) e)
+
+above-limit : Received 28
+above-limit = checked-row _ (rct-rows.rows .above-filled)
+
+unindicated : Received 38
+unindicated = checked-row _ (rct-rows.rows .unindicated)
+
+rnt-received : AllReceived (from 40 7)
+rnt-received =
+    rnt-row _ (rnt-rows.rows .other)
+    & rnt-row _ (rnt-rows.rows .common)
+    & rnt-row _ (rnt-rows.rows .provider-cut)
+    & rnt-row _ (rnt-rows.rows .provider-long)
+    & rnt-row _ (rnt-rows.rows .no-name)
+    & rnt-row _ (rnt-rows.rows .no-descriptors)
+    & rnt-row _ (rnt-rows.rows .authority-name-cut)
+    & all
+
+-- ---- what the other calls are given
 
 -- a related content section of so many links, with the bytes behind their number, and zeros for the CRC
 abbrev rctOf : ℕ → List ℕ → List ℕ
@@ -80,10 +110,6 @@ withBody xs = rctOf 1 (0xF0 ∷ length xs ∷ (xs ++ 0xF0 ∷ 0x00 ∷ []))
 -- the entry of a link of type 3 with no items and no descriptors
 abbrev entry : List ℕ
 entry = 0xF0 ∷ 0x07 ∷ 0x30 ∷ 0x00 ∷ 0x00 ∷ 0x00 ∷ 0x00 ∷ 0x00 ∷ 0x00 ∷ []
-
--- a resolution notification section, by what stands behind context_id_type
-abbrev rntOf : List ℕ → List ℕ
-rntOf xs = 0x79 ∷ 0xF0 ∷ (length xs + 10) ∷ 0x00 ∷ 0x01 ∷ 0xC1 ∷ 0x00 ∷ 0x00 ∷ 0x00 ∷ (xs ++ replicate 4 0)
 
 -- a header of a new section, by its version
 abbrev headerOf : ℕ → RctHeader
@@ -217,7 +243,7 @@ no-more =
 -- ---- by number
 
 pub all-received : AllReceived fixedList
-unfolding rct-section.sectionRead readingBy checkedBy rct.payloadVerdict rct.entryVerdict rct.numberRow opened computedAt crcRow crcOf clock blockRows lastVerdict bodyVerdict frontVerdict uriVerdict locatorRows countVerdict restVerdict itemVerdict itemsVerdict readLocator locatorVerdict linkRows numberedLink linkAnswer refuse _▷_ xor checkField draft.linkChecked draft.checkLink draft.checkPresence draft.checkFields draft.checkHead draft.checkUri draft.checkLocatorFields draft.checkCount draft.checkEnd draft.checkLocatorRule draft.checkRanges draft.checkUriRange draft.checkRange draft.firstIn locator-checks.checkFields locator-checks.checkWindows making made makeVerdict done checkMaking checkHeader checkLoop roomRows sectionLength payload blockBytes lengthBytes counted cutVerdict descriptorsOf told rnt-section.sectionRead rnt.payloadVerdict rnt.commonRow longRow rnt.providerVerdict rnt.providerHead rnt.namedVerdict placesTo
+unfolding rct-section.sectionRead readingBy checkedBy rct.payloadVerdict rct.entryVerdict rct.numberRow opened computedAt crcRow crcOf clock blockRows lastVerdict bodyVerdict frontVerdict uriVerdict locatorRows countVerdict restVerdict itemVerdict itemsVerdict readLocator locatorVerdict linkRows numberedLink linkAnswer refuse _▷_ xor checkField draft.linkChecked draft.checkLink draft.checkPresence draft.checkFields draft.checkHead draft.checkUri draft.checkLocatorFields draft.checkCount draft.checkEnd draft.checkLocatorRule draft.checkRanges draft.checkUriRange draft.checkRange draft.firstIn locator-checks.checkFields locator-checks.checkWindows making made makeVerdict done checkMaking checkHeader checkLoop roomRows sectionLength payload blockBytes lengthBytes counted cutVerdict descriptorsOf told
 all-received =
     read-section [] 17 0 refl
     & read-section (replicate 17 0x00) 118 0 refl
@@ -244,16 +270,9 @@ all-received =
     & check-link [] (recordOf 1 0 locator.Absent 0) 1 0 refl
     & check-link [] (recordOf 1 0 windowless 0) 0 0 refl
     & check-link [] (recordOf 3 0 locator.Absent 1) 1 0 refl
-    & check-section (0x76 ∷ 0xFF ∷ 0xFE ∷ replicate 4094 0xFF) 4094 4093 refl
+    & above-limit
     & make [] (headerOf 0) 15 [] (record { start = 0; length = 0 }) 17 0 refl
     & append fullBytes [] (recordOf 3 0 locator.Absent 0) 255 0 no-more
-    & check-section (0x76 ∷ replicate 16 0x00) 0 0 refl
+    & unindicated
     & count-descriptors (0x4D ∷ []) 0 0 1 refl
-    & read-rnt (replicate 15 0x00) 121 0 refl
-    & read-rnt (rntOf (0xF0 ∷ 0x01 ∷ [])) 1 0 refl
-    & read-rnt (rntOf (0xF0 ∷ 0x00 ∷ 0xF0 ∷ [])) 13 12 refl
-    & read-rnt (rntOf (0xF0 ∷ 0x00 ∷ 0xF0 ∷ 0x02 ∷ 0x00 ∷ [])) 2 1 refl
-    & read-rnt (rntOf (0xF0 ∷ 0x00 ∷ 0xF0 ∷ 0x00 ∷ [])) 14 13 refl
-    & read-rnt (rntOf (0xF0 ∷ 0x00 ∷ 0xF0 ∷ 0x02 ∷ 0x00 ∷ 0xF0 ∷ [])) 16 15 refl
-    & read-rnt (rntOf (0xF0 ∷ 0x00 ∷ 0xF0 ∷ 0x04 ∷ 0x00 ∷ 0xF0 ∷ 0x00 ∷ 0x01 ∷ [])) 18 17 refl
-    & all
+    & rnt-received

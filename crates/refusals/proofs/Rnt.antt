@@ -2,9 +2,14 @@
 -- Assumes nothing.
 use Prim.Native.Nat.{ℕ}
 use mathlib.Core.Path.{_≡_, refl}
-use mathlib.Core.List.{List}
+use mathlib.Core.List.{List, _∷_}
+use Rattle.wire.specs.Refusals.{notRnt}
+use Rattle.wire.specs.Verdict.{reached}
+use Rattle.wire.specs.declared.verdict.Reached.the-variants as reach
 use Rattle.wire.specs.declared.verdict.Refusal.{Refusal}
+use Rattle.frame.specs.Reading.{totalOf, opened}
 use Rattle.frame.specs.declared.Demands.{Demands}
+use Rattle.rnt.specs.Syntax.{rnt}
 use Rattle.rnt.specs.Reading.{reading, plain, checked}
 use Rattle.rnt.proofs.Listed.{plainReading, demandedReading, checkedReading, headReading, authorityReading, numberedReading}
 use Rattle.rnt_walker.specs.Entries.{providerFrom, authorityFrom}
@@ -21,9 +26,16 @@ use Rattle.rnt_providers.specs.Providers.{numberedProvider, numberedAuthority}
 use Rattle.rnt_providers.specs.declared.ProviderRead.the-variants as numbered-provider
 use Rattle.rnt_providers.specs.declared.AuthorityRead.the-variants as numbered-authority
 use Rattle.rnt_providers.proofs.Images.{read-provider-listed, read-authority-listed}
+use Rattle.refusals.specs.FixedList.{fixedList}
+use Rattle.refusals.proofs.Frames.{open-given}
 use Rattle.refusals.proofs.Given.{OnList, on-list}
 
 module _ (xs : List ℕ) (r : Refusal) where
+  -- ---- the opening, by this table
+
+  pub open-rnt-given : (d : Demands) → reached (opened rnt d xs) (totalOf xs) ≡ reach.Refused r → OnList r
+  open-rnt-given d e = on-list (notRnt ∷ fixedList) r refl (open-given rnt d xs r e)
+
   -- ---- reading
 
   pub read-section-given : sectionRead (plain xs) xs ≡ read.Refused r → OnList r

@@ -3,17 +3,15 @@
 use Prim.Native.Nat.{ℕ}
 use mathlib.Core.Path.{_≡_, refl}
 use mathlib.Core.List.{List, [], _∷_}
-use native.Mathlib.Omega.{arith}
 use lib.ListN.{drop}
 use Rattle.wire.specs.Refusals.{tooWide, againstRule, pastText, descriptorCut}
 use Rattle.wire.specs.declared.verdict.Refusal.{Refusal}
-use Rattle.wire.specs.declared.verdict.Verdict.{Verdict}
-use Rattle.wire.specs.declared.verdict.Verdict.the-variants.{Fine, Refused}
 use Rattle.field.specs.Fields.{checkField}
 use Rattle.field.specs.declared.Field.{Field}
 use Rattle.field.proofs.Checks.{field-listed}
 use Rattle.descriptors.specs.Reading.{cutVerdict, counted}
 use Rattle.descriptors.specs.declared.DescriptorsCounted.the-variants as count
+use Rattle.descriptors.proofs.Answers.{counted-refused}
 use Rattle.descriptors.proofs.Loops.{cut-listed}
 use Rattle.locator.specs.Reading.{locatorSize, readLocator}
 use Rattle.locator.specs.Checks.{checkFields, checkWindows}
@@ -41,11 +39,6 @@ use Rattle.refusals.proofs.Given.{Given, OnList, given, on-list}
 
 pub check-given : (f : Field) (n : ℕ) → Given (checkField f n)
 check-given f n = given (tooWide ∷ []) _ refl (field-listed f n)
-
-counted-refused : (v : Verdict) (n : ℕ) (r : Refusal) → counted v n ≡ count.Refused r → v ≡ Refused r
-unfolding counted
-counted-refused Fine n r e = let z : _≡_ {A = ℕ} 0 1 = cc in absurd (omega arith)
-counted-refused (Refused q) n r e = cc
 
 pub count-descriptors-given : (xs : List ℕ) (start n : ℕ) (r : Refusal) → counted (cutVerdict start (drop start xs)) n ≡ count.Refused r → OnList r
 count-descriptors-given xs start n r e = on-list (descriptorCut ∷ []) r refl (cut-listed start (drop start xs) r (counted-refused _ n r e))

@@ -1,9 +1,8 @@
 -- What the calls on a related content section answer.
 -- Assumes nothing.
 use Prim.Native.Nat.{ℕ}
-use mathlib.Core.Path.{_≡_, refl}
+use mathlib.Core.Path.{_≡_, refl, sym, ap, _∙_}
 use mathlib.Core.List.{List, _∷_}
-use native.Mathlib.Omega.{arith}
 use Rattle.wire.specs.Refusals.{notRct, loopCut, loopTooLong, sectionSlack, noSuchNumber, noMoreLinks}
 use Rattle.wire.specs.Verdict.{reached}
 use Rattle.wire.specs.declared.verdict.Reached.the-variants as reach
@@ -31,10 +30,12 @@ use Rattle.rct_reader.specs.Sections.{sectionRead}
 use Rattle.rct_reader.proofs.Listed.{read-section-listed, check-section-listed}
 use Rattle.rct_links.specs.Links.{numberedBody, numberedLink, numberedItem}
 use Rattle.rct_links.proofs.Listed.{numberReading, body-listed, link-listed, item-listed}
-use Rattle.rct_edit.specs.Edit.{roomRows, Outcome}
-use Rattle.rct_edit.specs.Answers.{splicedAs, splicedBy, answer}
+use Rattle.rct_edit.specs.Edit.{roomRows}
+use Rattle.rct_edit.specs.Answers.{editedBy}
 use Rattle.rct_edit.specs.Calls.{making, appending, replacing, appendingPlaced, replacingPlaced}
+use Rattle.rct_edit.specs.declared.Edited.{Edited}
 use Rattle.rct_edit.specs.declared.Spliced.the-variants as spliced
+use Rattle.rct_edit.proofs.Placed.{appending-edited, replacing-edited}
 use Rattle.rct_edit.proofs.Listed.{roomNumbers, makingNumbers, editNumbers, room-listed, making-listed, appending-listed, replacing-listed}
 use Rattle.rct_index.specs.Building.{buildVerdict, built, building}
 use Rattle.rct_index.specs.Editing.{appendingIndexed, replacingIndexed}
@@ -107,22 +108,14 @@ append-given xs t i = given (editNumbers noMoreLinks) _ refl (appending-listed x
 pub replace-given : (xs : List ℕ) (k : ℕ) (t : List ℕ) (i : LinkInfo) → Given (replacing xs k t i .verdict)
 replace-given xs k t i = given (editNumbers noSuchNumber) _ refl (replacing-listed xs k t i)
 
--- with the places of the section
-spliced-refused : (v : Verdict) (n b c a : ℕ) (r : Refusal) → splicedAs v n b c a ≡ spliced.Refused r → v ≡ Refused r
-unfolding splicedAs
-spliced-refused Fine n b c a r e = let z : _≡_ {A = ℕ} 0 1 = cc in absurd (omega arith)
-spliced-refused (Refused q) n b c a r e = cc
-
-placed-given : (o : Outcome) (b c a : ℕ) (r : Refusal) → Given (o .verdict) → splicedBy (answer o) b c a ≡ spliced.Refused r → OnList r
-placed-given o b c a r g e = g r (spliced-refused (o .verdict) (o .total) b c a r e)
-
+-- with the places of the section: the refusal is that of the edit without them
 pub append-placed-given : (xs t : List ℕ) (i : LinkInfo) (r : Refusal) → appendingPlaced xs t i ≡ spliced.Refused r → OnList r
-unfolding appendingPlaced
-append-placed-given xs t i r e = placed-given (appending xs t i) _ _ _ r (append-given xs t i) e
+unfolding editedBy
+append-placed-given xs t i r e = append-given xs t i r (ap (λ (a : Edited). a .verdict) (sym (appending-edited xs t i) ∙ ap editedBy e))
 
 pub replace-placed-given : (xs : List ℕ) (k : ℕ) (t : List ℕ) (i : LinkInfo) (r : Refusal) → replacingPlaced xs k t i ≡ spliced.Refused r → OnList r
-unfolding replacingPlaced
-replace-placed-given xs k t i r e = placed-given (replacing xs k t i) _ _ _ r (replace-given xs k t i) e
+unfolding editedBy
+replace-placed-given xs k t i r e = replace-given xs k t i r (ap (λ (a : Edited). a .verdict) (sym (replacing-edited xs k t i) ∙ ap editedBy e))
 
 -- ---- the index
 

@@ -1,5 +1,5 @@
--- What the calls answer that every table has. A call that is handed a number to refuse with, or a verdict, answers that or a number of the
--- list: it has no other of its own.
+-- What the calls answer that every table has. A call that is handed a number to refuse with, or a verdict, has no number of its own
+-- that is not on the list.
 -- Assumes nothing.
 use Prim.Native.Nat.{ℕ}
 use mathlib.Core.Path.{_≡_, refl}
@@ -26,22 +26,23 @@ use Rattle.frame.proofs.Listed.{demanded-listed, crc-verdict-listed}
 use Rattle.refusals.specs.FixedList.{fixedList}
 use Rattle.refusals.proofs.Given.{Given, given}
 
--- ---- what is handed in, or on the list
+-- ---- what is handed in
 
 -- the first of two verdicts hands on
 pub first-of-given : (ns : List ℕ) (a b : Verdict) → Among ns a → Among ns b → Among ns (a ▷ b)
 first-of-given ns a b p q = among-then ns a b p q
 
-pub check-left-given : (long length left : ℕ) → Among (long ∷ fixedList) (longRow long length left)
+-- a length against what is left: the numbers handed in alone
+pub check-left-given : (long length left : ℕ) → Among (long ∷ []) (longRow long length left)
 unfolding longRow
-check-left-given long length left = among-row (long ∷ fixedList) _ long _ _ (listed-here long fixedList)
+check-left-given long length left = among-row (long ∷ []) _ long _ _ (listed-here long [])
 
-pub check-last-given : (long slack length left : ℕ) → Among (long ∷ slack ∷ fixedList) (lastRows long slack length left)
+pub check-last-given : (long slack length left : ℕ) → Among (long ∷ slack ∷ []) (lastRows long slack length left)
 unfolding lastRows longRow
 check-last-given long slack length left =
-    let ns : List ℕ = long ∷ slack ∷ fixedList in
-    first-of-given ns _ _ (among-row ns _ long _ _ (listed-here long (slack ∷ fixedList)))
-    (among-row ns _ slack _ _ (listed-behind slack long (slack ∷ fixedList) (listed-here slack fixedList)))
+    let ns : List ℕ = long ∷ slack ∷ [] in
+    first-of-given ns _ _ (among-row ns _ long _ _ (listed-here long (slack ∷ [])))
+    (among-row ns _ slack _ _ (listed-behind slack long (slack ∷ []) (listed-here slack [])))
 
 -- the number that a list begins with, or one of a longer rest
 or-more : (n m : ℕ) (ns ms : List ℕ) → allListed ns ms ≡ true → listed n (m ∷ ns) ≡ true → listed n (m ∷ ms) ≡ true

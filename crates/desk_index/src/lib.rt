@@ -106,8 +106,14 @@ fn replace(line: &[u8], scan: Scan, b: &mut [u8], text: &[u8], index: RctIndex) 
 }
 
 // Carries out the call that a line has, if it is one of these.
-pub fn carry_out(line: &[u8], b: &mut [u8], text: &[u8], index: RctIndex) -> Kept {
-    let call = call_of(line, &CALLS);
+pub fn carry_out(
+    line: &[u8],
+    line_number: usize,
+    b: &mut [u8],
+    text: &[u8],
+    index: RctIndex,
+) -> Kept {
+    let call = call_of(line, line_number, &CALLS);
     let scan = call.scan;
     let number = call.number;
     match number {

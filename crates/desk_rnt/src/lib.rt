@@ -182,8 +182,8 @@ fn authority(line: &[u8], scan: Scan, s: &[u8]) {
 }
 
 // Carries out the call that a line has, if it is one of these. The answer: whether it is.
-pub fn carry_out(line: &[u8], s: &[u8]) -> bool {
-    let call = call_of(line, &CALLS);
+pub fn carry_out(line: &[u8], line_number: usize, s: &[u8]) -> bool {
+    let call = call_of(line, line_number, &CALLS);
     let scan = call.scan;
     let number = call.number;
     match number {

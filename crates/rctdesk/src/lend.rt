@@ -78,8 +78,8 @@ fn rest(line: &[u8], s: Scan) -> Scan {
 }
 
 // What a line lends.
-pub fn read_lending(line: &[u8]) -> Lending {
-    let call = call_of(line, &CALLS);
+pub fn read_lending(line: &[u8], line_number: usize) -> Lending {
+    let call = call_of(line, line_number, &CALLS);
     let s = rest(line, call.scan);
     let number = call.number;
     match number {

@@ -1,5 +1,6 @@
-// Carries out a script of calls on a section, a line each, and prints an answer line for each (docs/VECTORS.md).
+// Carries out a script of calls on a section, a line each, and prints an answer line for each (docs/RCTDESK.md).
 mod lend;
+mod line;
 
 use console::Short;
 use console::lines::Unread;
@@ -8,23 +9,24 @@ use console::print::end_line;
 use console::print::say;
 use lend::MOST;
 use lend::read_lending;
+use line::says_nothing;
+use line::without_return;
 use rct_index::RctIndex;
+use script::calls::put_error;
 use wire::spans::Span;
 use wire::spans::handed;
 
-// The most characters that a line has.
+// The most characters that a line has, besides the two that may end it.
 const LONGEST: usize = 32768;
 
 // What is wrong with a line.
-const UNKNOWN: Short = *b"error unknown call______";
+const UNKNOWN: Short = *b" unknown call___________";
 
-const EMPTY: Short = *b"error empty line________";
+const TOO_LONG: Short = *b" too long_______________";
 
-const TOO_LONG: Short = *b"error line too long_____";
-
-// How many characters of the line came, how much of the buffer and of the text is lent, and the index that is kept.
+// The number of the line, how much of the buffer and of the text is lent, and the index that is kept.
 struct Desk {
-    kept: usize,
+    line_number: usize,
     buf: usize,
     text: usize,
     index: RctIndex,
@@ -34,43 +36,37 @@ impl Desk {
     // Nothing is lent yet, and the index is one of nothing.
     fn start() -> Desk {
         Desk {
-            kept: 0,
+            line_number: 0,
             buf: 0,
             text: 0,
             index: RctIndex::none(),
         }
     }
-}
 
-// What is wrong with a line that has no call.
-fn put_error(kept: usize) {
-    if kept == 0 {
-        say(EMPTY);
-        return;
+    fn at_next_line(mut self) -> Desk {
+        self.line_number = std::num::wrapping_add_usize(self.line_number, 1);
+        self
     }
-    if kept > LONGEST {
-        say(TOO_LONG);
-        return;
-    }
-    say(UNKNOWN);
 }
 
 // The groups of calls, each of which says whether the call was its own: a new group is asked here. The answer: the index
 // that is kept from here on.
 fn dispatch(line: &[u8], b: &mut [u8], text: &[u8], desk: Desk) -> RctIndex {
     let index = desk.index;
-    if desk_reads::carry_out(line, &b[..]) {
+    let number = desk.line_number;
+    if desk_reads::carry_out(line, number, &b[..]) {
         return index;
     }
-    if desk_rnt::carry_out(line, &b[..]) {
+    if desk_rnt::carry_out(line, number, &b[..]) {
         return index;
     }
-    if desk_edits::carry_out(line, b, text) {
+    if desk_edits::carry_out(line, number, b, text) {
         return index;
     }
-    let kept = desk_index::carry_out(line, b, text, index);
+    let kept = desk_index::carry_out(line, number, b, text, index);
     if !kept.is_mine {
-        put_error(desk.kept);
+        put_error(number);
+        say(UNKNOWN);
     }
     kept.index
 }
@@ -89,7 +85,7 @@ fn on_lent(line: &[u8], buf: &mut [u8], text: &[u8], desk: Desk) -> RctIndex {
 
 // Carries out the call that a line has, and answers it.
 fn answer(line: &[u8], buf: &mut [u8], text: &mut [u8], mut desk: Desk) -> Desk {
-    let lending = read_lending(line);
+    let lending = read_lending(line, desk.line_number);
     let into = lending.into;
     match into {
         lend::BUF => desk.buf = lending.lend(line, buf, desk.buf),
@@ -102,8 +98,24 @@ fn answer(line: &[u8], buf: &mut [u8], text: &mut [u8], mut desk: Desk) -> Desk 
     desk
 }
 
-// A proved loop has to end, and nothing says that a script does: so it counts down from a number that no run uses up. Of a
-// line that is too long nothing is handed on.
+// A line of which so many characters count: one that says nothing has no answer.
+fn take(line: &[u8], length: usize, buf: &mut [u8], text: &mut [u8], desk: Desk) -> Desk {
+    if length > LONGEST {
+        put_error(desk.line_number);
+        say(TOO_LONG);
+        end_line();
+        return desk;
+    }
+    let line = handed(line, Span { start: 0, length });
+    if says_nothing(line) {
+        return desk;
+    }
+    let desk = answer(line, buf, text, desk);
+    end_line();
+    desk
+}
+
+// A proved loop has to end, and nothing says that a script does: so it counts down from a number that no run uses up.
 fn run(block: &mut [u8], line: &mut [u8], buf: &mut [u8], text: &mut [u8], start: Desk) {
     let mut desk = start;
     let mut unread = Unread::nothing();
@@ -113,13 +125,8 @@ fn run(block: &mut [u8], line: &mut [u8], buf: &mut [u8], text: &mut [u8], start
         if read.is_over {
             return;
         }
-        let kept = Span {
-            start: 0,
-            length: read.kept,
-        };
-        desk.kept = read.kept;
-        desk = answer(handed(&line[..], kept), buf, text, desk);
-        end_line();
+        let length = without_return(&line[..], read.kept);
+        desk = take(&line[..], length, buf, text, desk.at_next_line());
         unread = read.unread;
         turns -= 1;
     }
@@ -127,7 +134,7 @@ fn run(block: &mut [u8], line: &mut [u8], buf: &mut [u8], text: &mut [u8], start
 
 fn main() {
     let mut block = io::large_buffer();
-    let mut line = [0u8; LONGEST];
+    let mut line = [0u8; LONGEST + 1];
     let mut buf = [0u8; MOST as usize];
     let mut text = [0u8; MOST as usize];
     let start = Desk::start();

@@ -6,7 +6,9 @@ use console::print::put_number;
 use console::print::put_word;
 use console::print::say;
 
-const ERROR: Short = *b"error column ___________";
+const ERROR: Short = *b"error line _____________";
+
+const COLUMN: Short = *b" column ________________";
 
 // What a record is asked by: its number, or that of the record which it is in and its own.
 pub const NUMBER: Short = *b" #______________________";
@@ -26,16 +28,17 @@ pub struct Call {
 }
 
 // Past the name of a call, if the line has it.
-fn called(line: &[u8], name: Short) -> Scan {
-    let s = read_short(line, Scan::start(), name).scan;
+fn called(line: &[u8], start: Scan, name: Short) -> Scan {
+    let s = read_short(line, start, name).scan;
     if s.is_at(line, b' ') { s } else { s.end(line) }
 }
 
-pub fn call_of(line: &[u8], names: &[Short]) -> Call {
+pub fn call_of(line: &[u8], line_number: usize, names: &[Short]) -> Call {
+    let start = Scan::start(line_number);
     let mut number: usize = 0;
     while number < names.len() {
         let name = names[number];
-        let scan = called(line, name);
+        let scan = called(line, start, name);
         number += 1;
         if scan.is_fine {
             return Call { number, scan };
@@ -43,15 +46,22 @@ pub fn call_of(line: &[u8], names: &[Short]) -> Call {
     }
     Call {
         number: 0,
-        scan: Scan::start(),
+        scan: start,
     }
+}
+
+// Which line an error is in, the script's first being 1.
+pub fn put_error(line_number: usize) {
+    say(ERROR);
+    put_number(line_number);
 }
 
 // What is wrong with a line, and at which of its characters, the first being 1.
 fn put_fault(s: Scan) {
     let fault = s.fault;
     let missing = s.missing;
-    say(ERROR);
+    put_error(s.line_number);
+    say(COLUMN);
     put_number(std::num::wrapping_add_usize(s.at, 1));
     put_word(fault);
     put_word(missing);

@@ -1,4 +1,4 @@
-// A place in a line that moves on, with the number read last and the first fault met. After a fault nothing moves any
+// A place in a line that moves on, with the line's number, the number read last and the first fault met. After a fault nothing moves any
 // more, so that a reader of many words asks once, at the end. Places are added by wrapping sums, as in the crate console.
 use crate::form::HEX;
 use crate::form::NOTHING;
@@ -19,6 +19,7 @@ const END: Word = *b"end_______";
 const WIDEST: usize = u16::MAX as usize;
 
 pub struct Scan {
+    pub line_number: usize,
     pub at: usize,
     pub value: u16,
     pub is_fine: bool,
@@ -84,8 +85,9 @@ pub fn take_digits(line: &[u8], at: usize, base: usize, most: usize) -> Digits {
 }
 
 impl Scan {
-    pub fn start() -> Scan {
+    pub fn start(line_number: usize) -> Scan {
         Scan {
+            line_number,
             at: 0,
             value: 0,
             is_fine: true,
@@ -102,6 +104,7 @@ impl Scan {
     fn fails(self, at: usize, fault: Word, missing: Word) -> Scan {
         if self.is_fine {
             return Scan {
+                line_number: self.line_number,
                 at,
                 value: 0,
                 is_fine: false,

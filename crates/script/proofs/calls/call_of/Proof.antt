@@ -6,10 +6,10 @@ use Rattle.script.proofs.calls.call_of.Statement.{statement}
 use Rattle.script.proofs.calls.call_of.Tie as tie
 
 abbrev Inv-loop : tie.InvT-loop
-Inv-loop line names number₀ number = Unit {0}
+Inv-loop line line-number names start number₀ number = Unit {0}
 
 abbrev μ-loop : tie.MeasureT-loop
-μ-loop line names number₀ number = length names - number
+μ-loop line line-number names start number₀ number = length names - number
 
 pub call-of-spec : {M : Type 1} → statement M
 call-of-spec =

@@ -1,4 +1,4 @@
--- Document 01's list of fields: each with its rank there, which document 01 calls its place, and its widest number. The widths are those of ETSI TS 102 323,
+-- The fields that refusal 22 names (docs/REFUSALS.md): each with its rank, which is its place in that list, and its widest number. The widths are those of ETSI TS 102 323,
 -- Tables 31, 109 and 110: a field of n bits holds at most 2^n - 1.
 -- Assumes nothing.
 use Prim.Native.Nat.{ℕ, _+_, _-_, _%_}

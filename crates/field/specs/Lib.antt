@@ -1,2 +1,2 @@
--- Document 01's list of fields.
+-- The fields that refusal 22 names.
 pub mod Fields

@@ -1,18 +1,18 @@
-// The fields of document 01's list: what each is, its rank there, and its widest number, stated once for readers and
-// writers of every layer. Document 01 calls the rank the field's place; here a place is always one among bytes.
+// The fields that refusal 22 names (docs/REFUSALS.md): what each is, its rank in that list, and its widest number, stated once
+// for readers and writers of every layer. The list calls the rank the field's place; here a place is always one among bytes.
 ghost use mathlib.Core.Path.{_≡_};
 ghost use Rattle.field.specs.Fields.{ranked, checkField, low};
 use wire::lengths::LengthField;
 use wire::verdict::Refusal;
 use wire::verdict::Verdict;
 
-// A field's kind: its rank in document 01's list, where its constant says what it is, and its widest number.
+// A field's kind: its rank in the list, where its constant says what it is, and its widest number.
 pub struct Field {
     pub rank: usize,
     pub widest: usize,
 }
 
-// The field of a rank in document 01's list, if there is one.
+// The field of a rank in the list, if there is one.
 pub enum Listed {
     Known(Field),
     Nothing,
@@ -24,7 +24,7 @@ const ALL_OF_16_BITS: usize = 0xFFFF;
 // How many fields the list has: its last rank.
 const LAST_RANK: usize = 24;
 
-// Document 01's list, ranks 1 to 24.
+// The list, ranks 1 to 24.
 const LIST: [Field; LAST_RANK] = [
     Field::HOW_RELATED,
     Field::TERM_ID,
@@ -167,7 +167,7 @@ impl Field {
         widest: LengthField::WIDEST_BESIDE,
     };
 
-    // The field of a rank in document 01's list.
+    // The field of a rank in the list.
     pub fn of_rank(rank: usize) -> Listed
         ensures { λ r. ⌜ r ≡ ranked rank ⌝ }
     {

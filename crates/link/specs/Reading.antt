@@ -106,7 +106,7 @@ defaultIconAt xs = eqb (besideAt xs (tailPlace xs) / 8) 1
 abbrev pub iconIdAt : List ℕ → ℕ
 iconIdAt xs = low iconId (besideAt xs (tailPlace xs))
 
--- ---- the verdict: document 01's 6 to 16
+-- ---- the verdict: refusals 6 to 16
 
 unfoldable pub uriVerdict : List ℕ → Verdict
 uriVerdict xs =

@@ -1,4 +1,4 @@
--- The laws of a link to be written: passing the checks is fitting, they answer in document 01's order, and what is written
+-- The laws of a link to be written: passing the checks is fitting, they answer in the order of docs/REFUSALS.md, and what is written
 -- of a record that passed is accepted and read as its link.
 pub mod Counted
 pub mod Rows

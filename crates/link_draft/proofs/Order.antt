@@ -1,4 +1,4 @@
--- Document 01's order of a record's refusals, in its own words: which refusal is answered, and what holds then of all that
+-- The order of a record's refusals (docs/REFUSALS.md), in words: which refusal is answered, and what holds then of all that
 -- stands before it. Each is said both ways, so that the answer to every record is settled.
 -- Assumes nothing.
 use Prim.Native.Nat.{ℕ, _<_}

@@ -1,4 +1,4 @@
--- What is checked of a link's record before it is written: document 01's 23, 22, 24 and 25, in this order. Fields that are
+-- What is checked of a link's record before it is written: refusals 23, 22, 24 and 25, in this order. Fields that are
 -- absent are not checked.
 -- Assumes nothing.
 use Prim.Native.Nat.{ℕ, _+_}

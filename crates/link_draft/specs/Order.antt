@@ -1,4 +1,4 @@
--- What document 01's order of a record's refusals is about: whether URI and locator agree with the link type, the fields
+-- What the order of a record's refusals is about: whether URI and locator agree with the link type, the fields
 -- that the record has and their numbers, the rule on windows, and the ranges ("of several too wide the lowest place
 -- answers, items in order; of several ranges past the text the URI's, then the items', then the descriptors'").
 -- Assumes nothing.

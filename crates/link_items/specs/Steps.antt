@@ -1,5 +1,5 @@
--- The steps of an item reader (document 01: "a step answers the body's 6..16, then 21 (number, count) past the last, else
--- the item, and only then moves on"). What it keeps beside the bytes is the number of the next item. Ranges are counted
+-- The steps of an item reader: a step answers the body's 6 to 16, then 21 (number, count) past the last item, else the item,
+-- and moves on only with that. What it keeps beside the bytes is the number of the next item. Ranges are counted
 -- from the body: base 0.
 -- Assumes nothing.
 use Prim.Native.Nat.{ℕ, zero, suc, _+_}

@@ -35,7 +35,7 @@ pub enum BodyPlaces {
     Refused(Refusal),
 }
 
-// Where the parts of a body stand, or its refusal: document 01's 6 to 16. Each arm returns, so that its answer is stored
+// Where the parts of a body stand, or its refusal: 6 to 16. Each arm returns, so that its answer is stored
 // where the caller wants it and nowhere else.
 pub fn body_places(s: &[u8]) -> BodyPlaces
     ensures { λ r. ⌜ r ≡ bodyPlaces (now (s .entry)) ⌝ }

@@ -1,4 +1,4 @@
--- Document 01's two rows about the locator L, the bytes that are written of it, and those of records whose numbers are too
+-- The two rows about the locator L (docs/VECTORS.md), the bytes that are written of it, and those of records whose numbers are too
 -- wide.
 -- Assumes nothing.
 use Prim.Native.Nat.{ℕ}

@@ -1,5 +1,5 @@
 // Lists what each number stands for as a link's type and as its how_related scheme: the name, and the numbers of its class.
-// Then it lists document 01's fields by their rank: each with its widest number.
+// Then it lists the fields that refusal 22 names by their rank: each with its widest number.
 use console::Short;
 use console::print::end_line;
 use console::print::put_number;

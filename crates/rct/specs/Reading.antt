@@ -1,4 +1,4 @@
--- The related content section as it is read: the records that bytes stand for, total functions of the bytes, and the verdict on the bytes, document 01's rows in reading order.
+-- The related content section as it is read: the records that bytes stand for, total functions of the bytes, and the verdict on the bytes, the rows of docs/REFUSALS.md in reading order.
 -- Assumes nothing.
 use Prim.Native.Nat.{ℕ, zero, suc, _+_}
 use mathlib.Core.List.{List, [], _∷_}

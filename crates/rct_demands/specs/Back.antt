@@ -30,7 +30,7 @@ checkedRead xs = sectionRead (checked xs) xs
 
 -- ---- records that are equal
 
--- Document 01: records are equal if their numbers and the bytes of their ranges are equal, and items past the count mean nothing.
+-- Records are equal if their numbers and the bytes of their ranges are equal, and items past the count mean nothing.
 -- The syntax's record that a stands for with the text t has just these: the numbers, the bytes of the ranges, the items that count.
 abbrev pub SameLink : List ℕ → LinkInfo → List ℕ → LinkInfo → Type 0
 SameLink t a u b = linkOf t a ≡ linkOf u b

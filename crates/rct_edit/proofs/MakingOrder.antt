@@ -1,4 +1,4 @@
--- The order of making's refusals: request 102's 38, "first of all", then in document 01's own words "22, 25, 28, 29", and of several
+-- The order of making's refusals: request 102's 38, first of all, then 22, 25, 28, 29 (docs/REFUSALS.md), and of several
 -- fields too wide the lowest place answers. Of each refusal exactly when it is answered.
 -- Assumes nothing.
 use Prim.Native.Nat.{ℕ, _+_, _<_}

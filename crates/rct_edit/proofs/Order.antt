@@ -1,4 +1,4 @@
--- Document 01's order of the calls' refusals: of each refusal exactly when it is answered, and what holds then of all that stands
+-- The order of the calls' refusals (docs/REFUSALS.md): of each refusal exactly when it is answered, and what holds then of all that stands
 -- before it, so that the answer to every input is settled. Appending and replacing: the checked reading's, then 30 or 21, then 23, 22,
 -- 24, 25, 28, 29. Making: 38, 22, 25, 28, 29. By request 105 the checked reading answers 28 too, of the section that is there. The order
 -- of 23, 22, 24, 25 among themselves is link_draft's (Order).

@@ -1,4 +1,4 @@
--- Making a section with no links, appending a link and replacing link k, of what the calls are handed (document 01, 'Calls'): the outcomes of the records, with the verdict on their own checks.
+-- Making a section with no links, appending a link and replacing link k, of what the calls are handed: the outcomes of the records, with the verdict on their own checks.
 -- Assumes nothing.
 use Prim.Native.Nat.{ℕ}
 use mathlib.Core.List.{List}

@@ -1,4 +1,4 @@
--- Making a section, appending a link and replacing a link in a lent buffer (document 01, 'Calls'): the answer, and the buffer afterwards. All of it is said by the records; v is the verdict on what is handed in, which comes before the verdict on the result.
+-- Making a section, appending a link and replacing a link in a lent buffer: the answer, and the buffer afterwards. All of it is said by the records; v is the verdict on what is handed in, which comes before the verdict on the result.
 -- Assumes nothing.
 use Prim.Native.Nat.{ℕ, _+_, _-_, max}
 use mathlib.Core.List.{List, [], _∷_, _++_}
@@ -49,7 +49,7 @@ written xs s = sealed s ++ (replicate (totalOf xs - fullLength s) filler ++ drop
 unfoldable pub fresh : List ℕ → Section → List ℕ
 fresh xs s = sealed s ++ drop (fullLength s) xs
 
--- ---- the verdicts, in document 01's order
+-- ---- the verdicts, in the order of docs/REFUSALS.md
 
 -- 28 and 29 of a section_length
 abbrev pub lengthRow : ℕ → Verdict

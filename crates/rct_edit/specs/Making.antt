@@ -1,4 +1,4 @@
--- What is checked before a section with no links is made, of a header and a descriptor loop that are handed in: request 102's 38, then document 01's 22 and 25.
+-- What is checked before a section with no links is made, of a header and a descriptor loop that are handed in: refusals 38, 22 and 25, in this order.
 -- Assumes nothing.
 use Prim.Native.Nat.{ℕ, _+_, _≤_, _<_}
 use mathlib.Core.List.{List}

@@ -35,7 +35,7 @@ pub fn build_index(s: &[u8]) -> IndexBuilt
     }
 }
 
-// The loop at a place of a payload: document 01's 17 to 19, then its descriptors.
+// The loop at a place of a payload: refusals 17 to 19, then its descriptors.
 fn count_loop(payload: &[u8], at: u16) -> DescriptorsCounted
     ensures { λ r. ⌜ r ≡ counted (tailRows (now (payload .entry)) at) (tailCount (now (payload .entry)) at) ⌝ }
 {

@@ -1,4 +1,4 @@
--- Document 01's order of link and item by number, in its own words: "plain reading, then 21 for the link, then for the item".
+-- The order of refusals of link and item by number (docs/REFUSALS.md): those of the plain reading, then 21 for the link, then for the item.
 -- Exactly when each refusal is answered, and of an item what is answered in each case.
 -- Assumes nothing.
 use Prim.Native.Nat.{ℕ, _≤_, _<_}

@@ -1,4 +1,4 @@
--- Document 01's 'Sections to try': twelve rows of one statement, about the definitions that the contracts cite. The four bytes of a CRC are any.
+-- The sections to try (docs/VECTORS.md): twelve rows of one statement, about the definitions that the contracts cite. The four bytes of a CRC are any.
 -- Assumes nothing.
 use Prim.Native.Nat.{ℕ}
 use mathlib.Core.Path.{_≡_, refl, ap, _∙_}

@@ -95,7 +95,7 @@ fn section_of(s: &[u8], found: RctLoop) -> RctSection
     }
 }
 
-// The plain reading: document 01's 1 to 19.
+// The plain reading: refusals 1 to 19.
 pub fn read_section(s: &[u8]) -> RctSection
     ensures { λ r. ⌜ r ≡ sectionRead (plain (now (s .entry))) (now (s .entry)) ⌝ }
 {

@@ -22,7 +22,7 @@ pub enum EntryRead {
     Refused(Refusal),
 }
 
-// The entry at a place of a payload, the bytes of a section up to its CRC: document 01's 4 to 16 of this entry alone. Of a
+// The entry at a place of a payload, the bytes of a section up to its CRC: refusals 4 to 16 of this entry alone. Of a
 // slice that is longer than a payload can be no more is looked at.
 pub fn read_entry(payload: &[u8], at: u16) -> EntryRead
     ensures { λ r. ⌜ r ≡ entryRead (now (payload .entry)) at ⌝ }
@@ -52,7 +52,7 @@ pub fn read_entry(payload: &[u8], at: u16) -> EntryRead
     }
 }
 
-// The descriptor loop at a place of a payload, with which the payload ends: document 01's 17 to 19.
+// The descriptor loop at a place of a payload, with which the payload ends: refusals 17 to 19.
 pub fn check_loop(payload: &[u8], at: u16) -> Verdict
     ensures { λ r. ⌜ r ≡ loopVerdict (now (payload .entry)) (endOf (now (payload .entry))) at ⌝ }
 {

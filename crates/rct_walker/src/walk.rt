@@ -21,7 +21,7 @@ use wire::verdict::Reached;
 use wire::verdict::Refusal;
 use wire::verdict::Verdict;
 
-// Over the entry at `p` of a payload that ends at `e`, its body not looked at: document 01's 4 and 5.
+// Over the entry at `p` of a payload that ends at `e`, its body not looked at: refusals 4 and 5.
 pub(crate) fn past_length(s: &[u8], e: usize, p: usize) -> Reached
     requires { ⌜ (e ≤ length (now s)) × (p ≤ 65535) ⌝ }
     ensures { λ r. ⌜ r ≡ reached (entryRows (now (s .entry)) e p) (blockEnd (now (s .entry)) p) ⌝ }
@@ -42,7 +42,7 @@ pub(crate) fn past_length(s: &[u8], e: usize, p: usize) -> Reached
     }
 }
 
-// Over the entry at `p`, its body checked: document 01's 4 to 16.
+// Over the entry at `p`, its body checked: refusals 4 to 16.
 fn past_entry(s: &[u8], e: usize, p: usize) -> Reached
     requires { ⌜ (e ≤ length (now s)) × (p ≤ 65535) ⌝ }
     ensures { λ r. ⌜ r ≡ reached (entryVerdict (now (s .entry)) e p) (blockEnd (now (s .entry)) p) ⌝ }

@@ -1,4 +1,4 @@
--- The refusal numbers of document 01, and of document 02's requests, by name. They are not consecutive: some are never given (docs/DECISIONS.md), and of 31 to 39 there are only 38 and 39 as yet.
+-- The refusal numbers by name, as docs/REFUSALS.md has them. They are not consecutive: 26 and 27 are never given (docs/DECISIONS.md), and of 31 to 39 there are only 38 and 39 as yet.
 -- Assumes nothing.
 use Prim.Native.Nat.{ℕ}
 

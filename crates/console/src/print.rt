@@ -2,6 +2,7 @@
 // end. Counts and places are added by wrapping sums: none comes near the end of its type, and no proof has to say so.
 use crate::Short;
 use crate::Word;
+use crate::digits::glyph;
 use libc::STDOUT_FILENO;
 use wire::verdict::Refusal;
 
@@ -20,8 +21,11 @@ const SPACE: Short = *b" _______________________";
 
 const NEWLINE: Short = *b"\n_______________________";
 
-fn glyph(d: u8) -> u8 {
-    if d < 10 { b'0' + d } else { b'a' + d % 16 - 10 }
+// How bytes are printed: as the characters of a form, in two digits to base 16 each, or as text.
+pub enum Spelling {
+    Form,
+    Hex,
+    Text,
 }
 
 fn spell_letter(text: &mut Text, c: u8) -> usize {
@@ -45,18 +49,43 @@ fn spell_part(text: &mut Text, c: u8, number: u16) -> usize {
     }
 }
 
-fn spell(text: &mut Text, c: u8, is_hex: bool, number: u16) -> usize {
-    if is_hex {
-        return spell_byte(text, c);
+fn spell_doubled(text: &mut Text, c: u8) -> usize {
+    text[0] = c;
+    text[1] = c;
+    2
+}
+
+fn spell_escaped(text: &mut Text, byte: u8) -> usize {
+    text[0] = b'\\';
+    text[1] = b'x';
+    text[2] = glyph(byte / 16);
+    text[3] = glyph(byte % 16);
+    4
+}
+
+// A byte of a text whose character set is not known here: what ASCII prints is itself, any other byte is escaped, and so is
+// what escapes, by being doubled. So no text looks like another, nor has it a line's end in it.
+fn spell_character(text: &mut Text, c: u8) -> usize {
+    match c {
+        b'\\' => spell_doubled(text, c),
+        b' '..=b'~' => spell_letter(text, c),
+        _ => spell_escaped(text, c),
     }
-    spell_part(text, c, number)
+}
+
+fn spell(text: &mut Text, c: u8, spelling: Spelling, number: u16) -> usize {
+    match spelling {
+        Spelling::Form => spell_part(text, c, number),
+        Spelling::Hex => spell_byte(text, c),
+        Spelling::Text => spell_character(text, c),
+    }
 }
 
 // Writes what waits, so that nothing waits any more.
-fn flush(block: &Block, n: usize) -> usize {
+fn flush(out: i32, block: &Block, n: usize) -> usize {
     let bytes: &[u8] = block;
     if n <= bytes.len() {
-        io::write_all(STDOUT_FILENO, &bytes[0..n]);
+        io::write_all(out, &bytes[0..n]);
     }
     0
 }
@@ -68,11 +97,11 @@ fn put_front(block: &mut [u8], n: usize, text: &[u8], length: usize) {
 }
 
 // Keeps a text behind the `n` characters that wait, and answers how many wait then: few enough for one text more.
-fn gather(block: &mut Block, n: usize, text: &Text, length: usize) -> usize {
+fn gather(out: i32, block: &mut Block, n: usize, text: &Text, length: usize) -> usize {
     put_front(block, n, text, length);
     let n = std::num::wrapping_add_usize(n, length);
     if n > BLOCK - LONGEST {
-        return flush(block, n);
+        return flush(out, block, n);
     }
     n
 }
@@ -92,8 +121,8 @@ fn used_by(c: u8, used: usize) -> usize {
     }
 }
 
-// The one loop of all printing: each byte as a form's character, or each in two digits to base 16.
-fn put_all(bytes: &[u8], is_hex: bool, numbers: &[u16]) {
+// The one loop of all printing: bytes to an open file by one of the spellings, with the numbers that a form has.
+pub fn put_to(out: i32, bytes: &[u8], spelling: Spelling, numbers: &[u16]) {
     let mut block = [0u8; BLOCK];
     let mut text = [0u8; LONGEST];
     let mut n: usize = 0;
@@ -101,22 +130,27 @@ fn put_all(bytes: &[u8], is_hex: bool, numbers: &[u16]) {
     let mut i: usize = 0;
     while i < bytes.len() {
         let c = bytes[i];
-        let length = spell(&mut text, c, is_hex, number_at(numbers, used));
-        n = gather(&mut block, n, &text, length);
+        let length = spell(&mut text, c, spelling, number_at(numbers, used));
+        n = gather(out, &mut block, n, &text, length);
         used = used_by(c, used);
         i += 1;
     }
-    flush(&block, n);
+    flush(out, &block, n);
 }
 
 // A form with its numbers.
 pub fn put(form: &[u8], numbers: &[u16]) {
-    put_all(form, false, numbers);
+    put_to(STDOUT_FILENO, form, Spelling::Form, numbers);
 }
 
 // Bytes to base 16.
 pub fn put_hex(bytes: &[u8]) {
-    put_all(bytes, true, &[]);
+    put_to(STDOUT_FILENO, bytes, Spelling::Hex, &[]);
+}
+
+// Bytes as text.
+pub fn put_text(bytes: &[u8]) {
+    put_to(STDOUT_FILENO, bytes, Spelling::Text, &[]);
 }
 
 pub fn put_short(form: Short, numbers: [u16; 4]) {

@@ -4,6 +4,7 @@ use crate::form::HEX;
 use crate::form::NOTHING;
 use crate::form::Part;
 use console::Word;
+use console::digits::digit;
 use console::lines::char_at;
 
 // What is wrong, as an answer says it, behind the column and before what was expected there.
@@ -25,29 +26,6 @@ pub struct Scan {
     pub is_fine: bool,
     pub fault: Word,
     pub missing: Word,
-}
-
-// The value of a digit to base 16, and 16 for what is none.
-fn digit(c: u8) -> usize {
-    match c {
-        b'0' => 0,
-        b'1' => 1,
-        b'2' => 2,
-        b'3' => 3,
-        b'4' => 4,
-        b'5' => 5,
-        b'6' => 6,
-        b'7' => 7,
-        b'8' => 8,
-        b'9' => 9,
-        b'a' | b'A' => 10,
-        b'b' | b'B' => 11,
-        b'c' | b'C' => 12,
-        b'd' | b'D' => 13,
-        b'e' | b'E' => 14,
-        b'f' | b'F' => 15,
-        _ => 16,
-    }
 }
 
 // One more digit; what is too wide stays too wide.

@@ -12,6 +12,8 @@ use link_names::how_related::HowRelated;
 use link_names::how_related::NamedScheme;
 use link_names::link_type::LinkType;
 use link_names::link_type::NamedType;
+use name_words::scheme_name;
+use name_words::type_name;
 
 // One number more than a scheme can have.
 const END: u16 = Field::HOW_RELATED.widest as u16 + 2;
@@ -34,26 +36,6 @@ const NO_FIELD: Short = *b": no field______________";
 const LAST_ASKED: usize = Field::LOOP_LENGTH_RESERVED.rank + 1;
 
 const NOTHING: Short = *b"none____________________";
-
-fn type_name(t: LinkType) -> Short {
-    match t {
-        LinkType::UriString => *b"URI string______________",
-        LinkType::BinaryLocator => *b"binary locator__________",
-        LinkType::Both => *b"both____________________",
-        LinkType::Descriptor => *b"descriptor______________",
-        LinkType::DvbReserved(_) => *b"DVB reserved____________",
-    }
-}
-
-fn scheme_name(h: HowRelated) -> Short {
-    match h {
-        HowRelated::Cs2004 => *b"HowRelatedCS:2004_______",
-        HowRelated::Cs2005 => *b"HowRelatedCS:2005_______",
-        HowRelated::Cs2007 => *b"HowRelatedCS:2007_______",
-        HowRelated::DvbReserved(_) => *b"DVB reserved____________",
-        HowRelated::UserPrivate(_) => *b"user private____________",
-    }
-}
 
 // A name, and which number of its class it has.
 fn put_class(name: Short, number: u16, all: Numbers) {

@@ -5,8 +5,9 @@ mod words;
 use console::Short;
 use console::print::put_refusal;
 use console::print::say;
-use frame::payload_end;
 use rnt::ResolutionProvider;
+use rnt_counts::count_authorities;
+use rnt_counts::places_of;
 use rnt_providers::AuthorityRead;
 use rnt_providers::ProviderRead;
 use rnt_reader::RntRead;
@@ -32,11 +33,6 @@ const CALLS: [Short; 4] = [
     *b"auth____________________",
 ];
 
-// A place of a section as its walks take it: no section has as many bytes as 16 bits can count, and no proof has to say so.
-fn place(at: usize) -> u16 {
-    (at % 65536) as u16
-}
-
 // The authority at a place of a provider that ends at `end`. The answer: the place behind it.
 fn put_authority_at(s: &[u8], end: u16, at: u16) -> u16 {
     let found = entry::read_authority(s, end, at);
@@ -57,31 +53,6 @@ fn put_authorities(s: &[u8], count: usize, end: u16, first: u16) {
         at = put_authority_at(s, end, at);
         number += 1;
     }
-}
-
-// The place behind the authority at a place.
-fn behind_authority(s: &[u8], end: u16, at: u16) -> u16 {
-    let found = entry::read_authority(s, end, at);
-    match found {
-        AuthorityFound::Got { authority: _, next } => next,
-        AuthorityFound::Refused(_) => end,
-    }
-}
-
-// How many authorities stand between two places: that is printed before them. Each has three bytes at least, so there are
-// never as many as bytes before their end, and counting up to these ends no walk too early.
-fn count_authorities(s: &[u8], end: u16, first: u16) -> usize {
-    let most = end as usize;
-    let mut at = first;
-    let mut count: usize = 0;
-    while count < most {
-        if at >= end {
-            return count;
-        }
-        at = behind_authority(s, end, at);
-        count += 1;
-    }
-    count
 }
 
 fn put_whole_provider(s: &[u8], provider: ResolutionProvider, count: usize) {
@@ -112,14 +83,11 @@ fn put_providers(s: &[u8], count: usize, end: u16, first: u16) {
     }
 }
 
-// The first provider stands where the common descriptors end.
 fn put_whole(s: &[u8], section: RntSection) {
-    let common = section.common_descriptors;
-    let first = std::num::wrapping_add_usize(common.start, common.length);
-    let end = place(payload_end(section.total));
+    let places = places_of(section);
     say(OK);
     put_section(s, section);
-    put_providers(s, section.number_of_providers, end, place(first));
+    put_providers(s, section.number_of_providers, places.end, places.first);
 }
 
 fn put_read(s: &[u8], r: RntRead) {

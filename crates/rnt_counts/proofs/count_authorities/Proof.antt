@@ -1,8 +1,8 @@
 -- `count_authorities` is safe and ends: the measure is how many authorities may follow. Assumes nothing.
 use Prim.Native.Nat.{_-_}
 use borrow.Author.Needs.{needs}
-use Rattle.desk_rnt.proofs.count_authorities.Statement.{statement}
-use Rattle.desk_rnt.proofs.count_authorities.Tie as tie
+use Rattle.rnt_counts.proofs.count_authorities.Statement.{statement}
+use Rattle.rnt_counts.proofs.count_authorities.Tie as tie
 
 abbrev Inv-loop : tie.InvT-loop
 Inv-loop s end first most at₀ count₀ at count = Unit {0}

@@ -1,119 +1,54 @@
-// The listing of a related content section: a line for the section, one for each link, or its refusal alone. What is
-// promised of this crate is that it traps on nothing and ends; the gate runs it on stored input with the programs that
+// What the listings of both tables share: the options, the input, the messages, and what their lines have in common. What
+// is promised of this crate is that it traps on nothing and ends; the gate runs it on stored input with the programs that
 // stand on it.
 use console::Short;
-use console::print::end_line;
-use console::print::put;
-use console::print::put_number;
-use console::print::put_refusal;
-use console::print::put_short;
-use console::print::say;
 use frame::Table;
-use link::LinkFields;
-use rct::RctHeader;
-use rct_reader::RctSection;
-use rct_walker::entry::EntryRead;
-use wire::spans::Span;
-use wire::spans::handed;
-use wire::verdict::Verdict;
+use options::Options;
+
+pub mod arguments;
+mod hex;
+pub mod lines;
+mod messages;
+pub mod options;
 
 // The most bytes that a section has.
 pub const MOST: usize = Table::LONGEST_PAYLOAD + Table::CRC_LENGTH;
 
-const SECTION: [u8; 57] = *b"section # version # current # number # of # year # links ";
-
-const LINK: Short = *b"link ___________________";
-
-const FIELDS: [u8; 52] = *b" type # related # term # group # precedence # items ";
-
-const ICON: Short = *b" default # icon #_______";
-
-const DESCRIPTORS: Short = *b" descriptors ___________";
-
-fn put_section(r: RctSection) {
-    let header = r.header;
-    let section = header.section;
-    let descriptors = r.descriptors;
-    put(
-        &SECTION,
-        &[
-            section.table_id_extension,
-            section.version_number,
-            section.current_next_indicator as u16,
-            section.section_number as u16,
-            section.last_section_number as u16,
-            header.year_offset,
-        ],
-    );
-    put_number(r.number_of_links);
-    put_descriptors(descriptors.length as usize);
+// A program that lists: its name, the section that it lists, and the open file that its messages go to.
+pub struct Program {
+    pub name: Short,
+    pub section: Short,
+    pub messages: i32,
 }
 
-// What ends the line of a section and that of a link.
-fn put_descriptors(length: usize) {
-    say(DESCRIPTORS);
-    put_number(length);
-    end_line();
+// What is to be listed: so many bytes, or nothing, where help was asked for or something is wrong with words or input.
+pub enum Taken {
+    Bytes(usize),
+    Nothing,
 }
 
-fn put_link(number: usize, link: LinkFields) {
-    let descriptors = link.descriptors;
-    say(LINK);
-    put_number(number);
-    put(
-        &FIELDS,
-        &[
-            link.link_type,
-            link.how_related,
-            link.term_id,
-            link.group_id,
-            link.precedence,
-        ],
-    );
-    put_number(link.number_items);
-    put_short(ICON, [link.default_icon_flag as u16, link.icon_id, 0, 0]);
-    put_descriptors(descriptors.length as usize);
-}
-
-// The link at a place. The answer: the place behind its entry.
-fn put_link_at(payload: &[u8], number: usize, at: u16) -> u16 {
-    let entry = rct_walker::entry::read_entry(payload, at);
-    match entry {
-        EntryRead::Got {
-            fields,
-            items_at: _,
-            next,
-        } => {
-            put_link(number, fields);
-            next
-        }
-        EntryRead::Refused(_) => at,
-    }
-}
-
-// One walk: each entry that is read says where the next one starts.
-fn put_links(payload: &[u8], count: usize) {
-    let mut at = RctHeader::HEAD as u16;
-    let mut number: usize = 0;
-    while number < count {
-        at = put_link_at(payload, number, at);
-        number += 1;
-    }
-}
-
-// The section at the start of `s`, by plain reading.
-pub fn list(s: &[u8]) {
-    let r = rct_reader::read_section(s);
-    let verdict = r.verdict;
-    match verdict {
-        Verdict::Refused(refusal) => {
-            put_refusal(refusal);
-            end_line();
-        }
-        Verdict::Fine => {
-            let length = frame::payload_end(r.total);
-            put_section(r);
-            put_links(handed(s, Span { start: 0, length }), r.number_of_links);
+fn take_bytes(program: Program, input: i32, bytes: &mut [u8]) -> Taken {
+    let count = io::read_full(input, bytes);
+    let mut behind = [0u8; 1];
+    if count == bytes.len() {
+        if io::read_full(input, &mut behind) > 0 {
+            messages::tell_more(program);
         }
     }
+    Taken::Bytes(count)
+}
+
+// Reads what is to be listed from an open file, into a buffer of zeros. Where help was asked for it is printed instead.
+pub fn take(program: Program, options: Options, input: i32, bytes: &mut [u8]) -> Taken {
+    if options.is_help {
+        messages::put_help(program);
+        return Taken::Nothing;
+    }
+    if !options.is_known {
+        return Taken::Nothing;
+    }
+    if options.is_hex {
+        return hex::take_hex(program, input, bytes);
+    }
+    take_bytes(program, input, bytes)
 }

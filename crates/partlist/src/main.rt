@@ -6,6 +6,7 @@ use console::print::put_hex;
 use console::print::put_number;
 use console::print::say;
 use libc::STDIN_FILENO;
+use listing::options::Options;
 use rct_parts::link_body;
 use rct_parts::link_descriptors;
 use rct_parts::loop_descriptors;
@@ -74,7 +75,7 @@ fn put_links(s: &[u8], count: usize) {
 
 fn list(s: &[u8]) {
     let read = rct_reader::read_section(s);
-    listing::list(s);
+    rct_listing::list(s, Options::none());
     put_links(s, read.number_of_links);
     put_part(LOOP, loop_descriptors(s));
 }
@@ -82,7 +83,7 @@ fn list(s: &[u8]) {
 fn list_without_last(s: &[u8]) {
     if s.len() > 0 {
         let end = s.len() - 1;
-        listing::list(&s[0..end]);
+        rct_listing::list(&s[0..end], Options::none());
     }
 }
 

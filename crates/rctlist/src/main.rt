@@ -1,8 +1,9 @@
-// Lists the related content section on standard input.
+// Lists the related content section on standard input, as its arguments ask.
+use libc::STDERR_FILENO;
 use libc::STDIN_FILENO;
 
 fn main() {
-    let mut input = [0u8; listing::MOST];
-    let count = io::read_full(STDIN_FILENO, &mut input);
-    listing::list(&input[..count]);
+    let program = rct_listing::program(STDERR_FILENO);
+    let options = listing::arguments::options(program);
+    rct_listing::run(program, options, STDIN_FILENO);
 }

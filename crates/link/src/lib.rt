@@ -9,18 +9,21 @@ use locator::DvbBinaryLocator;
 pub mod reading;
 
 // Bytes of one lent text: where they start, and how many there are.
+#[repr(C)]
 pub struct Range {
     pub start: u32,
     pub length: u32,
 }
 
 // The three bytes of an ISO 639-2 language code.
+#[repr(C)]
 pub struct LangCode {
     pub first: u8,
     pub second: u8,
     pub third: u8,
 }
 
+#[repr(C)]
 pub struct LinkItem {
     pub language_code: LangCode,
     pub promotional_text: Range,

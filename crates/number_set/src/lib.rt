@@ -18,6 +18,7 @@ const WORDS: usize = 4;
 // How many numbers can be members: those below this one.
 const SIZE: usize = 256;
 
+#[repr(C)]
 pub struct NumberSet {
     pub words: [u64; WORDS],
 }

@@ -35,6 +35,7 @@ impl LinkMarks {
 }
 
 // For each of the three the numbers of the links that have it.
+#[repr(C)]
 pub struct LinkSets {
     pub uri: NumberSet,
     pub locator: NumberSet,
@@ -68,6 +69,7 @@ impl LinkSets {
     }
 }
 
+#[repr(C)]
 pub struct RctIndex {
     pub sets: LinkSets,
     pub places: [u16; MOST_LINKS],

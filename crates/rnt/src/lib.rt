@@ -47,6 +47,7 @@ impl RntHeader {
 
 // A provider: the bits before its two lengths, where its name and its descriptors stand, and between which places its
 // authorities do. Places are counted from the section's first byte.
+#[repr(C)]
 pub struct ResolutionProvider {
     pub reserved_info_length: u16,
     pub name: Span,
@@ -57,6 +58,7 @@ pub struct ResolutionProvider {
 }
 
 // An authority: where its name and its descriptors stand, and the four bits before the length of these.
+#[repr(C)]
 pub struct CridAuthority {
     pub name: Span,
     pub reserved: u16,

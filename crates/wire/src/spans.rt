@@ -4,6 +4,7 @@ ghost use Rattle.wire.specs.Lists.{within};
 ghost use Rattle.wire.specs.Spans.{spanOf, spanIn};
 
 // Where a part starts, and how many bytes it has.
+#[repr(C)]
 pub struct Span {
     pub start: usize,
     pub length: usize,

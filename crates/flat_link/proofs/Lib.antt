@@ -1,0 +1,3 @@
+-- That a flat record and the library's stand for the same link, and that each contract leaves one outcome.
+pub mod Back
+pub mod Unique

@@ -1,0 +1,4 @@
+-- A link's record as numbers alone, and the record that such numbers stand for.
+pub mod Flags
+pub mod Locators
+pub mod Links

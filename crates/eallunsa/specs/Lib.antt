@@ -1,0 +1,2 @@
+-- What the exports say of themselves.
+pub mod Version

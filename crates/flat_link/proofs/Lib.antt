@@ -1,3 +1,4 @@
--- That a flat record and the library's stand for the same link, and that each contract leaves one outcome.
+-- That a flat record and the library's stand for the same link, number by number, and that each contract leaves one outcome.
 pub mod Back
+pub mod Names
 pub mod Unique

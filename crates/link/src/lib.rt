@@ -39,7 +39,8 @@ pub enum LinkLocator {
     Present(DvbBinaryLocator),
 }
 
-// The fields of a link's record, all but the items themselves.
+// The fields of a link's record, all but the items themselves. The number of the items stands last, so that the items follow
+// without a gap: a record that is made of its fields and its items is then not made twice.
 pub struct LinkFields {
     pub reserved_link_info_length: u16,
     pub link_type: u16,
@@ -51,10 +52,10 @@ pub struct LinkFields {
     pub media_uri: MediaUri,
     pub dvb_binary_locator: LinkLocator,
     pub reserved_number_items: u16,
-    pub number_items: usize,
     pub default_icon_flag: bool,
     pub icon_id: u16,
     pub descriptors: Range,
+    pub number_items: usize,
 }
 
 // The record of a link: `number_items` of the items count, the others mean nothing.

@@ -21,6 +21,7 @@ use Rattle.rct_edit.specs.Edit.{mostLinks, withLink, withNext, countRow, replac
 use Rattle.rct_edit.specs.Answers.{answer, refusedWith, acceptedWith, editedBy}
 use Rattle.rct_edit.specs.Calls.{appending, replacing, placed, appendingPlaced, replacingPlaced}
 use Rattle.rct_edit.specs.declared.Edited.{Edited}
+use Rattle.rct_edit.specs.declared.Spliced.{Spliced}
 use Rattle.rct_edit.specs.declared.Spliced.the-variants as spliced
 use Rattle.rct_edit.proofs.Calls.{edit-passed, done-verdict}
 use Rattle.rct_edit.proofs.Placed.{placed-done, appending-edited, replacing-edited}
@@ -30,7 +31,7 @@ use Rattle.rct_index.specs.declared.LinkMarks.{LinkMarks}
 use Rattle.rct_index.specs.declared.RctIndex.{RctIndex}
 use Rattle.rct_index.proofs.BroughtUp.{place-within}
 use Rattle.rct_index.proofs.Marks.{record-marks}
-use Rattle.rct_index_editor.specs.Stages.{Numbers}
+use Rattle.rct_index_editor.specs.Stages.{Numbers, Answered, anewBy, lastOf}
 
 -- ---- an answer of the edit's answer e and of an index
 
@@ -119,17 +120,27 @@ module _ (xs t : List ℕ) (a : LinkInfo) (i : RctIndex) where
         edit-told xs b (countRow xs) (checkLink t a) (length (sectionAt xs .links)) next
         (λ f. omega (arith, count-is xs, passed-leb mostLinks (countAt xs) _ _ _ f)) _ total before count at e
 
-    pub append-numbers : Numbers count count at before total
+    append-numbers : Numbers count count at before total
     append-numbers = numbers-are _ _ _ _ _ _ _ _ _ _ (append-told .numbers) (append-told .links) refl refl refl refl
 
-    pub append-goes : (r : Edited) (j : RctIndex) (m : LinkMarks) → r ≡ acceptedWith total → m ≡ marksIn (a .fields) → j ≡ toldAnew i count count at before total m
-        → record { edited = r; index = j } ≡ appendingIndexed xs t a i
+    append-goes : (m : LinkMarks) → m ≡ marksIn (a .fields) → record { edited = acceptedWith total; index = toldAnew i count count at before total m } ≡ appendingIndexed xs t a i
     unfolding appendingIndexed
-    append-goes r j m = told-goes _ _ _ _ total before count at append-told t a i count r j m (append-told .links)
+    append-goes m em = told-goes _ _ _ _ total before count at append-told t a i count _ _ m (append-told .links) refl em refl
 
-  pub append-stops : (e : Edited) (r : Refusal) → appendingPlaced xs t a ≡ spliced.Refused r → e ≡ refusedWith (Refused r) → record { edited = e; index = i } ≡ appendingIndexed xs t a i
+  append-stops : (r : Refusal) → appendingPlaced xs t a ≡ spliced.Refused r → record { edited = refusedWith (Refused r); index = i } ≡ appendingIndexed xs t a i
   unfolding appendingIndexed editedBy
-  append-stops e r p = stops (appending xs t a) _ i e r (sym (appending-edited xs t a) ∙ ap editedBy p)
+  append-stops r p = stops (appending xs t a) _ i _ r (sym (appending-edited xs t a) ∙ ap editedBy p) refl
+
+  -- what the edit answered is handed on, and so is what is made of it
+  pub append-answered : Bytes xs → (put : Spliced) → put ≡ appendingPlaced xs t a → Answered (lastOf put) put
+  unfolding lastOf
+  append-answered b put e total before count at d = rw d (append-numbers b total before count at (sym e ∙ d))
+
+  pub append-indexed : Bytes xs → (put : Spliced) (m : LinkMarks) → put ≡ appendingPlaced xs t a → m ≡ marksIn (a .fields)
+      → record { edited = editedBy put; index = anewBy i (lastOf put) put m } ≡ appendingIndexed xs t a i
+  unfolding lastOf anewBy editedBy
+  append-indexed b (spliced.Done total before count at) m e em = append-goes b total before count at (sym e) m em
+  append-indexed b (spliced.Refused r) m e em = append-stops r (sym e)
 
 -- ---- replacing
 
@@ -144,14 +155,22 @@ module _ (xs : List ℕ) (k : ℕ) (t : List ℕ) (a : LinkInfo) (i : RctIndex) 
         edit-told xs b (numberRow xs k) (checkLink t a) k other
         (λ f. omega (arith, number-passed xs k f, bytes-at xs linkCountPlace b)) _ total before count at e
 
-    pub replace-numbers : Numbers k count at before total
+    replace-numbers : Numbers k count at before total
     replace-numbers = replace-told .numbers
 
-    pub replace-goes : (r : Edited) (j : RctIndex) (m : LinkMarks) → r ≡ acceptedWith total → m ≡ marksIn (a .fields) → j ≡ toldAnew i k count at before total m
-        → record { edited = r; index = j } ≡ replacingIndexed xs k t a i
+    replace-goes : (m : LinkMarks) → m ≡ marksIn (a .fields) → record { edited = acceptedWith total; index = toldAnew i k count at before total m } ≡ replacingIndexed xs k t a i
     unfolding replacingIndexed
-    replace-goes r j m = told-goes _ _ _ _ total before count at replace-told t a i k r j m refl
+    replace-goes m em = told-goes _ _ _ _ total before count at replace-told t a i k _ _ m refl refl em refl
 
-  pub replace-stops : (e : Edited) (r : Refusal) → replacingPlaced xs k t a ≡ spliced.Refused r → e ≡ refusedWith (Refused r) → record { edited = e; index = i } ≡ replacingIndexed xs k t a i
+  replace-stops : (r : Refusal) → replacingPlaced xs k t a ≡ spliced.Refused r → record { edited = refusedWith (Refused r); index = i } ≡ replacingIndexed xs k t a i
   unfolding replacingIndexed editedBy
-  replace-stops e r p = stops (replacing xs k t a) _ i e r (sym (replacing-edited xs k t a) ∙ ap editedBy p)
+  replace-stops r p = stops (replacing xs k t a) _ i _ r (sym (replacing-edited xs k t a) ∙ ap editedBy p) refl
+
+  pub replace-answered : Bytes xs → (put : Spliced) → put ≡ replacingPlaced xs k t a → Answered k put
+  replace-answered b put e total before count at d = replace-numbers b total before count at (sym e ∙ d)
+
+  pub replace-indexed : Bytes xs → (put : Spliced) (m : LinkMarks) → put ≡ replacingPlaced xs k t a → m ≡ marksIn (a .fields)
+      → record { edited = editedBy put; index = anewBy i k put m } ≡ replacingIndexed xs k t a i
+  unfolding anewBy editedBy
+  replace-indexed b (spliced.Done total before count at) m e em = replace-goes b total before count at (sym e) m em
+  replace-indexed b (spliced.Refused r) m e em = replace-stops r (sym e)

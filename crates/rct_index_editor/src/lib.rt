@@ -3,14 +3,12 @@ ghost use mathlib.Core.Path.{_≡_};
 ghost use Prim.Native.Nat.{_≤_};
 ghost use Rattle.rct_edit.specs.Calls.{appending, replacing};
 ghost use Rattle.rct_index.specs.Editing.{turns, movedPlace, toldAnew, appendingIndexed, replacingIndexed};
-ghost use Rattle.rct_index_editor.specs.Stages.{Numbers};
+ghost use Rattle.rct_index_editor.specs.Stages.{Numbers, Answered, anewBy, lastOf};
 use link::LinkInfo;
-use rct_edit::Edited;
 use rct_edit::Spliced;
 use rct_index::IndexEdited;
 use rct_index::LinkMarks;
 use rct_index::RctIndex;
-use wire::verdict::Verdict;
 
 // How many places 16 bits tell apart.
 const TURNS: usize = 65536;
@@ -51,6 +49,38 @@ fn told_anew(
     }
 }
 
+// The index as an edit of link `number` left it, or as it was where that was refused. It is told in one place, so that an edit
+// has one answer and no second index beside it.
+fn brought_up(index: RctIndex, number: usize, put: Spliced, marks: LinkMarks) -> RctIndex
+    requires { ⌜ Answered number put ⌝ }
+    ensures { λ r. ⌜ r ≡ anewBy index number put marks ⌝ }
+{
+    match put {
+        Spliced::Done {
+            total,
+            before,
+            count,
+            at,
+        } => told_anew(index, number, count, at, before, total, marks),
+        Spliced::Refused(_) => index,
+    }
+}
+
+// The number of a link that was appended: how many there were before.
+fn last_of(put: Spliced) -> usize
+    ensures { λ r. ⌜ r ≡ lastOf put ⌝ }
+{
+    match put {
+        Spliced::Done {
+            total: _,
+            before: _,
+            count,
+            at: _,
+        } => count,
+        Spliced::Refused(_) => 0,
+    }
+}
+
 // Appends a link, whose ranges are of `text`, and brings the index up with it.
 pub fn append(b: &mut [u8], text: &[u8], link: LinkInfo, index: RctIndex) -> IndexEdited
     ensures { λ r. ⌜ r ≡ appendingIndexed (now (b .entry)) (now (text .entry)) link index ⌝ }
@@ -59,20 +89,9 @@ pub fn append(b: &mut [u8], text: &[u8], link: LinkInfo, index: RctIndex) -> Ind
     let fields = link.fields;
     let marks = LinkMarks::of(fields);
     let put = rct_editor::editing::append_placed(b, text, link);
-    match put {
-        Spliced::Done {
-            total,
-            before,
-            count,
-            at,
-        } => IndexEdited {
-            edited: Edited::accepted(total),
-            index: told_anew(index, count, count, at, before, total, marks),
-        },
-        Spliced::Refused(r) => IndexEdited {
-            edited: Edited::refused(Verdict::Refused(r)),
-            index,
-        },
+    IndexEdited {
+        edited: put.edited(),
+        index: brought_up(index, last_of(put), put, marks),
     }
 }
 
@@ -90,19 +109,8 @@ pub fn replace(
     let fields = link.fields;
     let marks = LinkMarks::of(fields);
     let put = rct_editor::editing::replace_placed(b, number, text, link);
-    match put {
-        Spliced::Done {
-            total,
-            before,
-            count,
-            at,
-        } => IndexEdited {
-            edited: Edited::accepted(total),
-            index: told_anew(index, number, count, at, before, total, marks),
-        },
-        Spliced::Refused(r) => IndexEdited {
-            edited: Edited::refused(Verdict::Refused(r)),
-            index,
-        },
+    IndexEdited {
+        edited: put.edited(),
+        index: brought_up(index, number, put, marks),
     }
 }

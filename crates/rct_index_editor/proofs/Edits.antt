@@ -2,9 +2,11 @@
 -- Assumes nothing.
 use Prim.Native.Nat.{ℕ, _<_}
 use mathlib.Core.Path.{_≡_, refl, sym, ap, _∙_}
+use mathlib.Core.Bool.{Bool, true, false, _&&_, false≢true}
 use mathlib.Core.List.{List}
 use native.Mathlib.Omega.{arith}
 use lib.ListN.{length}
+use borrow.Author.Tests.{lt-ltb, le-leb, ltb-true, leb-true}
 use Rattle.wire.specs.Lists.{Bytes}
 use Rattle.wire.specs.declared.verdict.Refusal.{Refusal}
 use Rattle.wire.specs.declared.verdict.Verdict.{Verdict}
@@ -31,7 +33,8 @@ use Rattle.rct_index.specs.declared.LinkMarks.{LinkMarks}
 use Rattle.rct_index.specs.declared.RctIndex.{RctIndex}
 use Rattle.rct_index.proofs.BroughtUp.{place-within}
 use Rattle.rct_index.proofs.Marks.{record-marks}
-use Rattle.rct_index_editor.specs.Stages.{Numbers, Answered, anewBy, lastOf}
+use Rattle.rct_index_editor.specs.Bringing.{areNumbers, anewBy, lastOf}
+use Rattle.rct_index_editor.specs.Stages.{Numbers}
 
 -- ---- an answer of the edit's answer e and of an index
 
@@ -43,6 +46,30 @@ module _ (o : Outcome) (new old : RctIndex) (e : Edited) where
   stops : (r : Refusal) → answer o ≡ refusedWith (Refused r) → e ≡ refusedWith (Refused r) → record { edited = e; index = old } ≡ indexed o new old
   unfolding broughtUp
   stops r a is = λ i. record { edited = (is ∙ sym a) i; index = sym (ap (λ (v : Verdict). broughtUp v new old) (ap (λ (d : Edited). d .verdict) a)) i }
+
+-- ---- the numbers of an edit, as they are tested
+
+and-both : (a b : Bool) → (a && b) ≡ true → (a ≡ true) × (b ≡ true)
+and-both true b e = (refl, e)
+and-both false b e = absurd (false≢true e)
+
+module _ (k n q old new : ℕ) where
+  numbers-fit : Numbers k n q old new → areNumbers k n q old new ≡ true
+  numbers-fit m = rw (lt-ltb _ _ (m .number), le-leb _ _ (m .count), lt-ltb _ _ (m .place), le-leb _ _ (m .before), le-leb _ _ (m .total)) refl
+
+  pub fit-numbers : areNumbers k n q old new ≡ true → Numbers k n q old new
+  fit-numbers e =
+      let a = and-both _ _ e in
+      let b = and-both _ _ (a .1) in
+      let c = and-both _ _ (b .1) in
+      let d = and-both _ _ (c .1) in
+      record {
+        number = ltb-true _ _ (a .0);
+        count = leb-true _ _ (b .0);
+        place = ltb-true _ _ (c .0);
+        before = leb-true _ _ (d .0);
+        total = leb-true _ _ (d .1);
+      }
 
 -- ---- the numbers that an accepted edit answers
 
@@ -131,15 +158,11 @@ module _ (xs t : List ℕ) (a : LinkInfo) (i : RctIndex) where
   unfolding appendingIndexed editedBy
   append-stops r p = stops (appending xs t a) _ i _ r (sym (appending-edited xs t a) ∙ ap editedBy p) refl
 
-  -- what the edit answered is handed on, and so is what is made of it
-  pub append-answered : Bytes xs → (put : Spliced) → put ≡ appendingPlaced xs t a → Answered (lastOf put) put
-  unfolding lastOf
-  append-answered b put e total before count at d = rw d (append-numbers b total before count at (sym e ∙ d))
-
   pub append-indexed : Bytes xs → (put : Spliced) (m : LinkMarks) → put ≡ appendingPlaced xs t a → m ≡ marksIn (a .fields)
       → record { edited = editedBy put; index = anewBy i (lastOf put) put m } ≡ appendingIndexed xs t a i
   unfolding lastOf anewBy editedBy
-  append-indexed b (spliced.Done total before count at) m e em = append-goes b total before count at (sym e) m em
+  append-indexed b (spliced.Done total before count at) m e em =
+      rw (numbers-fit _ _ _ _ _ (append-numbers b total before count at (sym e))) (append-goes b total before count at (sym e) m em)
   append-indexed b (spliced.Refused r) m e em = append-stops r (sym e)
 
 -- ---- replacing
@@ -166,11 +189,9 @@ module _ (xs : List ℕ) (k : ℕ) (t : List ℕ) (a : LinkInfo) (i : RctIndex) 
   unfolding replacingIndexed editedBy
   replace-stops r p = stops (replacing xs k t a) _ i _ r (sym (replacing-edited xs k t a) ∙ ap editedBy p) refl
 
-  pub replace-answered : Bytes xs → (put : Spliced) → put ≡ replacingPlaced xs k t a → Answered k put
-  replace-answered b put e total before count at d = replace-numbers b total before count at (sym e ∙ d)
-
   pub replace-indexed : Bytes xs → (put : Spliced) (m : LinkMarks) → put ≡ replacingPlaced xs k t a → m ≡ marksIn (a .fields)
       → record { edited = editedBy put; index = anewBy i k put m } ≡ replacingIndexed xs k t a i
   unfolding anewBy editedBy
-  replace-indexed b (spliced.Done total before count at) m e em = replace-goes b total before count at (sym e) m em
+  replace-indexed b (spliced.Done total before count at) m e em =
+      rw (numbers-fit _ _ _ _ _ (replace-numbers b total before count at (sym e))) (replace-goes b total before count at (sym e) m em)
   replace-indexed b (spliced.Refused r) m e em = replace-stops r (sym e)

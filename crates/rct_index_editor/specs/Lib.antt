@@ -1,2 +1,3 @@
--- The code's own stage of bringing up an index.
+-- What an index becomes by what an edit answered, and what a stage is handed.
+pub mod Bringing
 pub mod Stages

@@ -3,8 +3,10 @@ ghost use mathlib.Core.Path.{_≡_};
 ghost use Prim.Native.Nat.{_≤_};
 ghost use Rattle.rct_edit.specs.Calls.{appending, replacing};
 ghost use Rattle.rct_index.specs.Editing.{turns, movedPlace, toldAnew, appendingIndexed, replacingIndexed};
-ghost use Rattle.rct_index_editor.specs.Stages.{Numbers, Answered, anewBy, lastOf};
+ghost use Rattle.rct_index_editor.specs.Stages.{Numbers};
+ghost use Rattle.rct_index_editor.specs.Bringing.{areNumbers, anewBy, lastOf};
 use link::LinkInfo;
+use rct_edit::MOST_LINKS;
 use rct_edit::Spliced;
 use rct_index::IndexEdited;
 use rct_index::LinkMarks;
@@ -49,10 +51,28 @@ fn told_anew(
     }
 }
 
-// The index as an edit of link `number` left it, or as it was where that was refused. It is told in one place, so that an edit
-// has one answer and no second index beside it.
-fn brought_up(index: RctIndex, number: usize, put: Spliced, marks: LinkMarks) -> RctIndex
-    requires { ⌜ Answered number put ⌝ }
+// Whether these are numbers of an edit at link `number`: of others nothing is told.
+fn are_numbers(number: usize, count: usize, at: usize, old: usize, new: usize) -> bool
+    ensures { λ r. ⌜ r ≡ areNumbers number count at old new ⌝ }
+{
+    if MOST_LINKS <= number {
+        return false;
+    }
+    if MOST_LINKS < count {
+        return false;
+    }
+    if TURNS <= at {
+        return false;
+    }
+    if TURNS < old {
+        return false;
+    }
+    new <= TURNS
+}
+
+// The index as an edit at link `number` left it, by what that edit answered, or as it was where it was refused. Whoever has
+// little stack calls the edit and then this: the record of the link is gone by then.
+pub fn bring_up(index: RctIndex, number: usize, put: Spliced, marks: LinkMarks) -> RctIndex
     ensures { λ r. ⌜ r ≡ anewBy index number put marks ⌝ }
 {
     match put {
@@ -61,13 +81,18 @@ fn brought_up(index: RctIndex, number: usize, put: Spliced, marks: LinkMarks) ->
             before,
             count,
             at,
-        } => told_anew(index, number, count, at, before, total, marks),
+        } => {
+            if are_numbers(number, count, at, before, total) {
+                return told_anew(index, number, count, at, before, total, marks);
+            }
+            index
+        }
         Spliced::Refused(_) => index,
     }
 }
 
 // The number of a link that was appended: how many there were before.
-fn last_of(put: Spliced) -> usize
+pub fn last_of(put: Spliced) -> usize
     ensures { λ r. ⌜ r ≡ lastOf put ⌝ }
 {
     match put {
@@ -91,7 +116,7 @@ pub fn append(b: &mut [u8], text: &[u8], link: LinkInfo, index: RctIndex) -> Ind
     let put = rct_editor::editing::append_placed(b, text, link);
     IndexEdited {
         edited: put.edited(),
-        index: brought_up(index, last_of(put), put, marks),
+        index: bring_up(index, last_of(put), put, marks),
     }
 }
 
@@ -111,6 +136,6 @@ pub fn replace(
     let put = rct_editor::editing::replace_placed(b, number, text, link);
     IndexEdited {
         edited: put.edited(),
-        index: brought_up(index, number, put, marks),
+        index: bring_up(index, number, put, marks),
     }
 }

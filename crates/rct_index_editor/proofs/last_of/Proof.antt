@@ -1,5 +1,5 @@
 -- `last_of` meets its contract. Assumes nothing.
-use Rattle.rct_index_editor.specs.Stages.{lastOf}
+use Rattle.rct_index_editor.specs.Bringing.{lastOf}
 use borrow.Author.Needs.{needs}
 use Rattle.rct_index_editor.proofs.last_of.Statement.{statement}
 use Rattle.rct_index_editor.proofs.last_of.Tie as tie

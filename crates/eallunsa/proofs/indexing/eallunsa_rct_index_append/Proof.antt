@@ -1,25 +1,47 @@
 -- `eallunsa_rct_index_append` meets its contract. Assumes nothing.
+use Rattle.wire.proofs.Lists.{bytes-known}
+use Rattle.rct_index_editor.proofs.Edits.{append-indexed}
+use Rattle.flat_link.specs.Links.{infoOf}
 use borrow.Author.Needs.{needs}
 use Rattle.eallunsa.proofs.indexing.eallunsa_rct_index_append.Statement.{statement}
 use Rattle.eallunsa.proofs.indexing.eallunsa_rct_index_append.Tie as tie
 
-link-requires : tie.Need-link-requires
-link-requires c κs = search needs
-
-append-requires : tie.Need-append-requires
-append-requires c κs = search needs
+fields-requires : tie.Need-fields-requires
+fields-requires c κs = search needs
 
 of-requires : tie.Need-of-requires
 of-requires c κs = search needs
+
+put-last-requires : tie.Need-put-last-requires
+put-last-requires c κs = search needs
+
+last-of-requires : tie.Need-last-of-requires
+last-of-requires c κs = search needs
+
+answered-requires : tie.Need-answered-requires
+answered-requires c κs = search needs
 
 same-length : tie.Need-same-length
 same-length c = search needs
 
 returns : tie.Need-returns
+unfolding infoOf
 returns c =
-    let told = rw (c .before .before .before .before .link .ensures) at (c .before .before .before .append .ensures) in
-    (rw (← told .0) (c .of .ensures), told .1)
+    let args = c .before .before .before .before .before .before .before .before .before .before .before .args in
+    let b = bytes-known (args .b .now) (c .before .before .before .before .before .before .before .before .before .before .slice-known .given) in
+    let put = c .before .before .before .before .put-last in
+    let marks = rw (c .before .before .before .before .before .before .before .fields .ensures) at (c .before .before .before .before .before .before .of .ensures) in
+    let told = append-indexed (args .b .now) (args .text .now) _ (args .index) b _ _ (put .ensures .0) marks in
+    (rw (← told, ← c .before .last-of .ensures) (c .answered .ensures), put .ensures .1)
 
 pub eallunsa-rct-index-append-spec : {M : Type 1} → statement M
 eallunsa-rct-index-append-spec =
-    tie.close (tie.spec link-requires append-requires of-requires same-length returns)
+    tie.close
+    (tie.spec
+    fields-requires
+    of-requires
+    put-last-requires
+    last-of-requires
+    answered-requires
+    same-length
+    returns)

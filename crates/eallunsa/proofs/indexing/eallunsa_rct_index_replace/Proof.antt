@@ -1,25 +1,37 @@
 -- `eallunsa_rct_index_replace` meets its contract. Assumes nothing.
+use Rattle.wire.proofs.Lists.{bytes-known}
+use Rattle.rct_index_editor.proofs.Edits.{replace-indexed}
+use Rattle.flat_link.specs.Links.{infoOf}
 use borrow.Author.Needs.{needs}
 use Rattle.eallunsa.proofs.indexing.eallunsa_rct_index_replace.Statement.{statement}
 use Rattle.eallunsa.proofs.indexing.eallunsa_rct_index_replace.Tie as tie
 
-link-requires : tie.Need-link-requires
-link-requires c κs = search needs
-
-replace-requires : tie.Need-replace-requires
-replace-requires c κs = search needs
+fields-requires : tie.Need-fields-requires
+fields-requires c κs = search needs
 
 of-requires : tie.Need-of-requires
 of-requires c κs = search needs
+
+put-over-requires : tie.Need-put-over-requires
+put-over-requires c κs = search needs
+
+answered-requires : tie.Need-answered-requires
+answered-requires c κs = search needs
 
 same-length : tie.Need-same-length
 same-length c = search needs
 
 returns : tie.Need-returns
+unfolding infoOf
 returns c =
-    let told = rw (c .before .before .before .before .link .ensures) at (c .before .before .before .replace .ensures) in
-    (rw (← told .0) (c .of .ensures), told .1)
+    let args = c .before .before .before .before .before .before .before .before .before .before .args in
+    let b = bytes-known (args .b .now) (c .before .before .before .before .before .before .before .before .before .slice-known .given) in
+    let put = c .before .before .before .put-over in
+    let marks = rw (c .before .before .before .before .before .before .fields .ensures) at (c .before .before .before .before .before .of .ensures) in
+    let told = replace-indexed (args .b .now) (args .number) (args .text .now) _ (args .index) b _ _ (put .ensures .0) marks in
+    (rw (← told) (c .answered .ensures), put .ensures .1)
 
 pub eallunsa-rct-index-replace-spec : {M : Type 1} → statement M
 eallunsa-rct-index-replace-spec =
-    tie.close (tie.spec link-requires replace-requires of-requires same-length returns)
+    tie.close
+    (tie.spec fields-requires of-requires put-over-requires answered-requires same-length returns)

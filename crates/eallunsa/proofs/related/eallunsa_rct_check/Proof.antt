@@ -1,4 +1,6 @@
 -- `eallunsa_rct_check` meets its contract. Assumes nothing.
+use mathlib.Core.Path.{_∙_, ap}
+use Rattle.flat_answers.specs.Sections.{rctAnswer}
 use borrow.Author.Needs.{needs}
 use Rattle.eallunsa.proofs.related.eallunsa_rct_check.Statement.{statement}
 use Rattle.eallunsa.proofs.related.eallunsa_rct_check.Tie as tie
@@ -10,7 +12,7 @@ of-requires : tie.Need-of-requires
 of-requires c κs = search needs
 
 returns : tie.Need-returns
-returns c = rw (← c .before .check-section .ensures) (c .of .ensures)
+returns c = c .of .ensures ∙ ap rctAnswer (c .before .check-section .ensures)
 
 pub eallunsa-rct-check-spec : {M : Type 1} → statement M
 eallunsa-rct-check-spec = tie.close (tie.spec check-section-requires of-requires returns)

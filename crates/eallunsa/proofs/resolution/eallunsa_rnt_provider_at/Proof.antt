@@ -1,4 +1,6 @@
 -- `eallunsa_rnt_provider_at` meets its contract. Assumes nothing.
+use mathlib.Core.Path.{_∙_, ap}
+use Rattle.flat_answers.specs.Providers.{providerFoundAnswer}
 use borrow.Author.Needs.{needs}
 use Rattle.eallunsa.proofs.resolution.eallunsa_rnt_provider_at.Statement.{statement}
 use Rattle.eallunsa.proofs.resolution.eallunsa_rnt_provider_at.Tie as tie
@@ -10,7 +12,7 @@ of-requires : tie.Need-of-requires
 of-requires c κs = search needs
 
 returns : tie.Need-returns
-returns c = rw (← c .before .read-provider .ensures) (c .of .ensures)
+returns c = c .of .ensures ∙ ap providerFoundAnswer (c .before .read-provider .ensures)
 
 pub eallunsa-rnt-provider-at-spec : {M : Type 1} → statement M
 eallunsa-rnt-provider-at-spec = tie.close (tie.spec read-provider-requires of-requires returns)

@@ -1,6 +1,7 @@
 /* Holds the records of eallunsa.h to those of the library: what is handed in has to come out as bytes, and bytes have to
- * come out as records, field by field, with another number in each as far as its width allows. The sections below were
- * encoded by hand from the tables of the standard, not by the library. Prints the version, and what differs. */
+ * come out as records, field by field, with another number in each as far as its width allows. The bytes are those of
+ * examples/sections.hex, handed in on standard input: encoded from the tables of the standard, not by the library. Prints
+ * the version, and what differs. */
 #include "eallunsa.h"
 
 #include <stdio.h>
@@ -28,16 +29,9 @@ static size_t from_hex(uint8_t *s, const char *hex)
 static const uint8_t text[] = "..www.aTitelTitre!\x4a\x01\x07\x5f";
 enum { TEXT = sizeof text }; /* with its last 0, which is the length of the second descriptor */
 
-/* The section of no links, of one, two and three. */
-static const char *const steps[] = {
-    "76a01312346b050907ea00a0054a01075f007b1dafda",
-    "76a04712346b050907ea0190322655a76b057777772e61d4b2044d04b20517057c05e106464d8264657505546974656c6672610654697472"
-    "6521d0034a0107a0054a01075f00a14d1c43",
-    "76a05812346b050907ea0290322655a76b057777772e61d4b2044d04b20517057c05e106464d8264657505546974656c6672610654697472"
-    "6521d0034a0107600f18e2c9942e6e6906ab0710b3403000a0054a01075f0016a80af6",
-    "76a06b12346b050907ea0390322655a76b057777772e61d4b2044d04b20517057c05e106464d8264657505546974656c6672610654697472"
-    "6521d0034a0107600f18e2c9942e6e6906ab0710b3403000c0110ff0f012057777772e61c1656e67006000a0054a01075f00c47bc5b8",
-};
+/* A related content section of no links, of one, two and three, and a resolution notification section, in hex. */
+enum { SECTIONS = 5, RESOLUTION = 4 };
+static char sections[SECTIONS][300];
 
 static eallunsa_rct_header header(void)
 {
@@ -212,7 +206,7 @@ static void written(void)
     eallunsa_index index = eallunsa_rct_index(b, made.total).index;
     memcpy(indexed, b, sizeof b);
     for (size_t k = 0; k <= 3; k++) {
-        size_t n = from_hex(want, steps[k]);
+        size_t n = from_hex(want, sections[k]);
         SAME(made.refusal.number, 0);
         SAME(made.total, n);
         SAME(memcmp(b, want, n), 0);
@@ -246,7 +240,7 @@ static void written(void)
 static void read_back(void)
 {
     uint8_t s[256];
-    size_t n = from_hex(s, steps[3]);
+    size_t n = from_hex(s, sections[3]);
     eallunsa_rct_answer plain = eallunsa_rct_read(s, n), r = eallunsa_rct_check(s, n);
     SAME(plain.total, n);
     SAME(r.refusal.number, 0);
@@ -288,7 +282,7 @@ static void read_back(void)
 static void indexes(void)
 {
     uint8_t s[256];
-    size_t n = from_hex(s, steps[3]);
+    size_t n = from_hex(s, sections[3]);
     eallunsa_index index = eallunsa_rct_index(s, n).index;
     SAME(index.uri.words[0], 5);
     SAME(index.locator.words[0], 3);
@@ -326,8 +320,7 @@ static void indexes(void)
 static void resolution(void)
 {
     uint8_t s[128];
-    size_t n = from_hex(s, "79d03e43219a030708b0045f020102902605702e6f726760034a01090766697273742e6160000a7365636f6e642e"
-                           "6f7267d00440021122c00401713000f00f38f2");
+    size_t n = from_hex(s, sections[RESOLUTION]);
     eallunsa_rnt_answer plain = eallunsa_rnt_read(s, n), r = eallunsa_rnt_check(s, n);
     SAME(plain.total, n);
     SAME(r.refusal.number, 0);
@@ -385,6 +378,8 @@ static void resolution(void)
 
 int main(void)
 {
+    for (size_t k = 0; k < SECTIONS; k++)
+        SAME(scanf("%299s", sections[k]), 1);
     eallunsa_version_number version = eallunsa_version();
     printf("%u.%u.%u\n", version.major, version.minor, version.patch);
     SAME(eallunsa_crc((const uint8_t *)"123456789", 9), 0x0376E6E7); /* the check value of CRC-32/MPEG-2 */

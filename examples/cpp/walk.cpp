@@ -1,20 +1,14 @@
-// Walks over the section of a day, from place to place, and asks its index. The header is included as it is.
+// Walks over the related content section in a file, from place to place, and asks its index. The header is included as it
+// is.
 #include "eallunsa.h"
 
+#include <fstream>
 #include <iostream>
+#include <iterator>
 #include <string>
-#include <string_view>
 #include <vector>
 
 namespace {
-
-std::vector<std::uint8_t> from_hex(std::string_view hex)
-{
-    std::vector<std::uint8_t> bytes;
-    for (std::size_t k = 0; k + 1 < hex.size(); k += 2)
-        bytes.push_back(static_cast<std::uint8_t>(std::stoi(std::string(hex.substr(k, 2)), nullptr, 16)));
-    return bytes;
-}
 
 std::string text(const std::uint8_t *s, eallunsa_range range)
 {
@@ -41,10 +35,15 @@ void print(const eallunsa_locator &l)
 int main(int argc, char **argv)
 {
     if (argc != 2) {
-        std::cerr << "usage: walk HEX\n";
+        std::cerr << "usage: walk FILE\n";
         return 2;
     }
-    const auto bytes = from_hex(argv[1]);
+    std::ifstream file(argv[1], std::ios::binary);
+    if (!file) {
+        std::cerr << "walk: " << argv[1] << " cannot be read\n";
+        return 2;
+    }
+    const std::vector<std::uint8_t> bytes{std::istreambuf_iterator<char>(file), {}};
     // The pointer of an empty vector may be null, and no call takes null.
     static const std::uint8_t nothing = 0;
     const std::uint8_t *s = bytes.empty() ? &nothing : bytes.data();

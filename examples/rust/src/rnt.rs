@@ -1,0 +1,94 @@
+//! The resolution notification section.
+
+use crate::{raw, Header, Refusal};
+
+/// A section that was read.
+#[derive(Clone, Copy, Debug, PartialEq, Eq)]
+#[non_exhaustive]
+#[allow(missing_docs)]
+pub struct Section<'a> {
+    /// All bytes of the section, its CRC included.
+    pub bytes: &'a [u8],
+    pub header: Header,
+    pub context_id_type: u8,
+    pub reserved_common_descriptors_length: u16,
+    pub common_descriptors: &'a [u8],
+    pub number_of_providers: usize,
+}
+
+/// A provider, without its authorities.
+#[derive(Clone, Copy, Debug, PartialEq, Eq)]
+#[allow(missing_docs)]
+pub struct Provider<'a> {
+    pub reserved_info_length: u16,
+    pub name: &'a [u8],
+    pub reserved_descriptors_length: u16,
+    pub descriptors: &'a [u8],
+    pub number_of_authorities: usize,
+}
+
+/// An authority of a provider.
+#[derive(Clone, Copy, Debug, PartialEq, Eq)]
+#[allow(missing_docs)]
+pub struct Authority<'a> {
+    pub name: &'a [u8],
+    pub reserved: u16,
+    pub crid_authority_policy: u16,
+    pub descriptors: &'a [u8],
+}
+
+/// The plain reading of the section that `s` begins with: its syntax, not its CRC.
+pub fn read(s: &[u8]) -> Result<Section<'_>, Refusal> {
+    // SAFETY: here and below, pointers and lengths are those of slices.
+    section(s, unsafe { raw::eallunsa_rnt_read(s.as_ptr(), s.len()) })
+}
+
+/// The checked reading: with the syntax indicator, the limit of the length, and the CRC.
+pub fn check(s: &[u8]) -> Result<Section<'_>, Refusal> {
+    section(s, unsafe { raw::eallunsa_rnt_check(s.as_ptr(), s.len()) })
+}
+
+fn section(s: &[u8], answer: raw::RntAnswer) -> Result<Section<'_>, Refusal> {
+    fine(answer.refusal)?;
+    Ok(Section {
+        bytes: &s[..answer.total],
+        header: Header::of(answer.header),
+        context_id_type: answer.context_id_type,
+        reserved_common_descriptors_length: answer.reserved_common_descriptors_length,
+        common_descriptors: part(s, answer.common_descriptors),
+        number_of_providers: answer.number_of_providers,
+    })
+}
+
+/// Provider by number, the first is 0.
+pub fn provider(s: &[u8], number: usize) -> Result<Provider<'_>, Refusal> {
+    let answer = unsafe { raw::eallunsa_rnt_provider(s.as_ptr(), s.len(), number) };
+    fine(answer.refusal)?;
+    Ok(Provider {
+        reserved_info_length: answer.provider.reserved_info_length,
+        name: part(s, answer.provider.name),
+        reserved_descriptors_length: answer.provider.reserved_descriptors_length,
+        descriptors: part(s, answer.provider.descriptors),
+        number_of_authorities: answer.number_of_authorities,
+    })
+}
+
+/// Authority by number of a provider by number.
+pub fn authority(s: &[u8], number: usize, authority: usize) -> Result<Authority<'_>, Refusal> {
+    let answer = unsafe { raw::eallunsa_rnt_authority(s.as_ptr(), s.len(), number, authority) };
+    fine(answer.refusal)?;
+    Ok(Authority {
+        name: part(s, answer.authority.name),
+        reserved: answer.authority.reserved,
+        crid_authority_policy: answer.authority.crid_authority_policy,
+        descriptors: part(s, answer.authority.descriptors),
+    })
+}
+
+fn fine(refusal: raw::Refusal) -> Result<(), Refusal> {
+    Refusal::of(refusal).map_or(Ok(()), Err)
+}
+
+fn part(s: &[u8], span: raw::Span) -> &[u8] {
+    &s[span.start..span.start + span.length]
+}

@@ -21,8 +21,18 @@ bad = []
 
 
 def same(what, got, want):
-    if got != want:
+    if isinstance(want, dict):
+        for key in sorted({*got, *want}):
+            same(f"{what}: {key}", got.get(key), want.get(key))
+    elif got != want:
         bad.append(f"{what}: {got}, and not {want}")
+
+
+def same_names(what, got, want):
+    for name in sorted({*got} - {*want}):
+        bad.append(f"{what}: {name} is too much")
+    for name in sorted({*want} - {*got}):
+        bad.append(f"{what}: {name} is missing")
 
 
 # ---- the sources
@@ -98,10 +108,10 @@ def header():
 # ---- records and parameters: assertions for the compiler
 
 
-def fit(kind, name):
+def fit(where, kind, name):
     """Notes that the Rattle type `kind` is the header's `name`, and asserts its fields."""
     if kind in SCALARS:
-        same(f"a {kind}", name, SCALARS[kind][0])
+        same(where, name, SCALARS[kind][0])
     elif kind not in fitted:
         fitted[kind] = name
         if name not in structs:
@@ -115,7 +125,7 @@ def fit(kind, name):
         for field in left:
             bad.append(f"{name}.{field}: {kind} has no such field")
     else:
-        same(f"the record {kind}", name, fitted[kind])
+        same(where, name, fitted[kind])
 
 
 def fields(name, kind, base, left):
@@ -125,7 +135,7 @@ def fields(name, kind, base, left):
         at = -(-at // align) * align
         if field in left:
             c, n = left.pop(field)
-            placed(f"{name}", field, inner, c, n, base + at, size)
+            placed(name, field, inner, c, n, base + at, size)
         elif inner in records:  # its fields stand in the header without a record around them
             fields(name, inner, base + at, left)
         else:
@@ -138,15 +148,15 @@ def placed(name, field, kind, c, n, at, size):
     said(f"sizeof((({name} *)0)->{field}) == {size}")
     if not n:
         of_kind(f"(({name} *)0)->{field}", c)
-        fit(kind, c)
+        fit(f"{name}.{field}", kind, c)
         return
     of_kind(f"(({name} *)0)->{field}[0]", c)
     if array(kind):
-        fit(array(kind)[0], c)
+        fit(f"{name}.{field}", array(kind)[0], c)
         said(f"sizeof((({name} *)0)->{field}) / sizeof({c}) == {array(kind)[1]}")
     else:  # a record of one kind of number is an array in the header
         for _, inner in records[kind]:
-            fit(inner, c)
+            fit(f"{name}.{field}", inner, c)
 
 
 def of_kind(value, c):
@@ -171,10 +181,10 @@ def function(name, given, answer):
             kinds += [f"{'' if lent[1] else 'const '}{SCALARS[lent[2]][0]} *", "size_t"]
             take()
         else:
-            fit(kind, c)
+            fit(f"{name}: {parameter}", kind, c)
             kinds.append(SCALARS[kind][0] if kind in SCALARS else c)
     same(f"{name}: parameters too many", rest, [])
-    fit(answer, c_answer)
+    fit(f"{name}: the answer", answer, c_answer)
     kind = SCALARS[answer][0] if answer in SCALARS else c_answer
     said(f"_Generic(&{name}, {kind} (*)({', '.join(kinds) or 'void'}): 1, default: 0)")
 
@@ -197,7 +207,7 @@ def refusals():
          {"EALLUNSA_PLACE_" + row[1]: int(row[0]) for row in rows(fields, 4)})
     same("widest numbers", widest, {"EALLUNSA_PLACE_" + row[1]: int(row[2]) for row in rows(fields, 4)})
     wrapper = root / "examples/rust/src/refusal.rs"
-    same("refusals in Rust", {n: int(v) for v, n in re.findall(r"^ +(\d+) => (\w+),", wrapper.read_text(), re.M)},
+    same("refusals in Rust", {n: int(v) for v, n in re.findall(r'^ +(\d+) => (\w+), "', wrapper.read_text(), re.M)},
          {n.title().replace("_", ""): v for n, v in names.items()})
 
     orders = {}
@@ -253,14 +263,14 @@ archive, out = sys.argv[1:]
 records, functions, constants = rattle()
 structs, declared, words, numbers, widest = header()
 symbols = subprocess.run(["nm", "-g", "--defined-only", archive], capture_output=True, text=True, check=True).stdout
-same("functions of the header", sorted(declared), sorted(functions))
-same("functions of the archive", sorted(line.split()[2] for line in symbols.splitlines() if " T " in line), sorted(functions))
+same_names("functions of the header", declared, functions)
+same_names("functions of the archive", [line.split()[2] for line in symbols.splitlines() if " T " in line], functions)
 same("names with another prefix", [name for name in [*declared, *structs] if not name.startswith(PREFIX)], [])
 fitted, facts = {}, []
 for name, (given, answer, _) in functions.items():
     if name in declared:
         function(name, given, answer)
-same("records of the header", sorted(structs), sorted(fitted.values()))
+same_names("records of the header", structs, fitted.values())
 refusals()
 for line in bad:
     print("c_header: " + line)

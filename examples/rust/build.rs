@@ -1,9 +1,19 @@
-//! Links libeallunsa.a from the folder that EALLUNSA_LIB names.
+//! Links libeallunsa.a: from the folder that EALLUNSA_LIB names by its whole path, or from where `tools/package` or
+//! `rt staticlib eallunsa` has put it.
+
+use std::path::{Path, PathBuf};
 
 fn main() {
     println!("cargo:rerun-if-env-changed=EALLUNSA_LIB");
-    let folder = std::env::var("EALLUNSA_LIB").expect("EALLUNSA_LIB has to name the folder of libeallunsa.a");
-    println!("cargo:rerun-if-changed={folder}/libeallunsa.a");
-    println!("cargo:rustc-link-search=native={folder}");
+    let here = Path::new(env!("CARGO_MANIFEST_DIR"));
+    let folders = match std::env::var_os("EALLUNSA_LIB") {
+        Some(folder) => vec![PathBuf::from(folder)],
+        None => vec![here.join("../../../../lib"), here.join("../../target/staticlib")],
+    };
+    let Some(folder) = folders.iter().find(|folder| folder.join("libeallunsa.a").is_file()) else {
+        panic!("there is no libeallunsa.a in {folders:?}: EALLUNSA_LIB has to name its folder");
+    };
+    println!("cargo:rerun-if-changed={}", folder.join("libeallunsa.a").display());
+    println!("cargo:rustc-link-search=native={}", folder.display());
     println!("cargo:rustc-link-lib=static=eallunsa");
 }

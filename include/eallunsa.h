@@ -17,8 +17,8 @@
  * Flags and presences are numbers. Handed in, 0 is no and anything else is yes; in an answer yes is 1. Where
  * something is absent its fields mean nothing when handed in, and are 0 in an answer.
  *
- * Stack. No call takes more than 6,144 bytes below its caller's stack pointer. Records that are handed in by
- * value lie above it, in the caller's own frame.
+ * Stack. No call takes more than 6,144 bytes, the records that are handed in by value included. What a call
+ * answers goes where its caller has it.
  *
  * To link: libeallunsa.a, and a C library for memcpy and memset. */
 #ifndef EALLUNSA_H

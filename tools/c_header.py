@@ -39,7 +39,7 @@ def same_names(what, got, want):
 
 
 def rattle():
-    """Records laid out as C does, exported functions, and constants, of all crates."""
+    """Records laid out as C does, of all crates; exported functions, with what they and their helpers call; constants."""
     records, functions, constants = {}, {}, {}
     for path in sorted(root.glob("crates/*/src/**/*.rt")):
         text = re.sub(r"//.*", "", path.read_text())
@@ -54,8 +54,17 @@ def rattle():
         exported = r'#\[no_mangle\]\s*pub extern "C" fn (\w+)\((.*?)\)(?: -> (\w+))?\s*(?:ensures.*?)?\n\{(.*?)\n\}'
         if path.is_relative_to(root / "crates/eallunsa"):
             for name, given, answer, body in re.findall(exported, text, re.S):
-                functions[name] = (re.findall(r"(\w+): ([^,]+?)\s*(?:,|$)", given), answer, body)
+                functions[name] = (re.findall(r"(\w+): ([^,]+?)\s*(?:,|$)", given), answer, called(body, text))
     return records, functions, constants
+
+
+def called(body, text):
+    """The calls of a body, and of the functions of its own file that it calls."""
+    found = []
+    for call in re.findall(r"\b([\w:]+)\(", body):
+        helper = re.search(rf"\nfn {call}\(.*?\n\{{(.*?)\n\}}", text, re.S)
+        found += called(helper[1], text) if helper else [call]
+    return found
 
 
 def array(kind):
@@ -212,18 +221,25 @@ def refusals():
 
     orders = {}
     for call, order in re.findall(r"^\| (`.*?) \| (.*?) \|$", calls, re.M):
+        crate = ""
         for name in re.findall(r"`([\w:]+)`", call):
+            if "::" not in name:  # of the crate that was named last
+                name = f"{crate}::{name}"
+            crate = name.partition("::")[0]
             reading = re.search(r"the (\w+) reading", call)
             orders[name] = order
             if reading:
                 orders[f"{name[:3]} {reading[1]}"] = order
-    for name, (_, _, body) in functions.items():
-        made = [call for call in re.findall(r"\b(\w+(?:::\w+)+)\(", body) if short(call, orders)]
-        want = numbered(orders[short(made[0], orders)], made[0][:3], orders) if made else []
+    for name, (_, answer, made) in functions.items():
+        made = [call for call in made if short(call, orders)]
+        refuses = ("refusal", "Refusal") in records.get(answer, [])
         if "Refusals:" not in words.get(name, ""):
             bad.append(f"{name}: its comment has no refusals")
-            continue
-        same(f"{name}: refusals", by_words(name), want)
+        elif refuses and len(made) != 1:
+            bad.append(f"{name}: which call of docs/REFUSALS.md it makes is not clear: {made}")
+        else:
+            want = numbered(orders[short(made[0], orders)], made[0][:3], orders) if refuses else []
+            same(f"{name}: refusals", by_words(name), want)
 
 
 def short(call, orders):

@@ -10,9 +10,9 @@ fn main() {
         Some(folder) => vec![PathBuf::from(folder)],
         None => vec![here.join("../../../../lib"), here.join("../../target/staticlib")],
     };
-    let Some(folder) = folders.iter().find(|folder| folder.join("libeallunsa.a").is_file()) else {
-        panic!("there is no libeallunsa.a in {folders:?}: EALLUNSA_LIB has to name its folder");
-    };
+    let found = folders.iter().find(|folder| folder.join("libeallunsa.a").is_file());
+    let folder =
+        found.unwrap_or_else(|| panic!("EALLUNSA_LIB has to name the folder of libeallunsa.a: {folders:?} has none"));
     println!("cargo:rerun-if-changed={}", folder.join("libeallunsa.a").display());
     println!("cargo:rustc-link-search=native={}", folder.display());
     println!("cargo:rustc-link-lib=static=eallunsa");

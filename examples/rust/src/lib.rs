@@ -4,6 +4,7 @@
 //! Bytes go in as slices. What is read borrows from them, and a link to be written borrows its texts from wherever they
 //! are. Every call ends, for every input, and gives its answer or a [`Refusal`] of a fixed list; a call that refuses has
 //! changed no byte of the buffer that it was lent.
+#![warn(missing_docs)]
 
 #[cfg(not(all(target_arch = "x86_64", target_os = "linux")))]
 compile_error!("libeallunsa.a is code for Linux on x86-64");

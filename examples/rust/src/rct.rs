@@ -1,6 +1,7 @@
 //! The related content section.
 
 use crate::records::{length, part};
+use crate::refusal::fine;
 use crate::{raw, Item, Link, RctHeader, Refusal};
 
 /// The most bytes of a section that may be sent: a buffer of this length has room for every section.
@@ -42,10 +43,6 @@ fn section(s: &[u8], answer: raw::RctAnswer) -> Result<Section<'_>, Refusal> {
         reserved_descriptor_loop_length: answer.reserved_descriptor_loop_length,
         descriptors: part(s, answer.descriptors),
     })
-}
-
-fn fine(refusal: raw::Refusal) -> Result<(), Refusal> {
-    Refusal::of(refusal).map_or(Ok(()), Err)
 }
 
 impl<'a> Section<'a> {

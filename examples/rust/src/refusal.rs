@@ -26,14 +26,14 @@ macro_rules! refusals {
             pub fn meaning(self) -> &'static str {
                 match self { $(Refusal::$name(..) => $when,)* }
             }
+        }
 
-            /// Nothing where the number is 0, which stands for no refusal.
-            pub(crate) fn of(r: raw::Refusal) -> Option<Refusal> {
-                match r.number {
-                    0 => None,
-                    $($number => Some(Refusal::$name(r.first, r.second)),)*
-                    other => unreachable!("no call has the number {other}"),
-                }
+        /// Nothing to tell where the number is 0, which stands for no refusal.
+        pub(crate) fn fine(r: raw::Refusal) -> Result<(), Refusal> {
+            match r.number {
+                0 => Ok(()),
+                $($number => Err(Refusal::$name(r.first, r.second)),)*
+                other => unreachable!("no call has the number {other}"),
             }
         }
     };

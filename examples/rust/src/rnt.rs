@@ -1,5 +1,6 @@
 //! The resolution notification section.
 
+use crate::refusal::fine;
 use crate::{raw, Header, Refusal};
 
 /// A section that was read.
@@ -83,10 +84,6 @@ pub fn authority(s: &[u8], number: usize, authority: usize) -> Result<Authority<
         crid_authority_policy: answer.authority.crid_authority_policy,
         descriptors: part(s, answer.authority.descriptors),
     })
-}
-
-fn fine(refusal: raw::Refusal) -> Result<(), Refusal> {
-    Refusal::of(refusal).map_or(Ok(()), Err)
 }
 
 fn part(s: &[u8], span: raw::Span) -> &[u8] {

@@ -116,8 +116,12 @@ static void make(void)
         start(2), append(link_of(1, 0, i % 16, 1, 0, i, 2)), sprintf(name, "header-%02u", i), show(name);
     }
     header.section.version_number = 7;
-    /* one section of each length from 17 to 399, so that sections end and begin at each place of a packet */
-    for (size_t n = 0; n <= 399 - 17; n++) start(n), sprintf(name, "length-%03zu", 17 + n), show(name);
+    /* one section of each length from 17 to 399, each with a small one behind it, which then begins at each place of a packet */
+    for (size_t n = 17; n <= 399; n++) {
+        header.section.table_id_extension = (uint16_t)n;
+        start(n - 17), sprintf(name, "length-%03zu", n), show(name);
+        start(0), sprintf(name, "behind-%03zu", n), show(name);
+    }
 }
 
 /* ---- reading */

@@ -6,8 +6,8 @@ What lies between the library and its peers: transport packets of ISO/IEC 13818-
 written have lines 'NAME HEX'. It uses neither the library nor a peer. The last three print the number of sections, and exit
 with 1 at the first that differs.
 
-pack           each section from a packet of its own on, with 0xFF behind it (HOW: alone), or each right behind the one before
-               (HOW: packed); as a transport stream and as a capture of its packets, one a frame
+pack           sections one right behind the other (HOW: packed), or each from a packet of its own on, with 0xFF behind it (HOW:
+               alone), or each second one (HOW: paired); as a transport stream and as a capture of its packets, one a frame
 flip           the sections with one bit flipped, another one in each, none of it in the bytes that say how long it is
 fields         what each section is built from, as `theirs make` takes it
 notifications  the same for resolution notification sections
@@ -50,7 +50,8 @@ def payloads(parts):
 
 def pack(how, path, stream, capture):
     parts = [section for _, section in sections(path)]
-    runs = [[part] for part in parts] if how == "alone" else [parts]
+    many = {"alone": 1, "paired": 2, "packed": len(parts)}[how]
+    runs = [parts[i : i + many] for i in range(0, len(parts), many)]
     with open(stream, "wb") as ts, open(capture, "wb") as pcap:
         pcap.write(struct.pack("<IHHiIII", 0xA1B2C3D4, 2, 4, 0, 0, 65535, 243))  # 243: MPEG-2 transport packets
         for k, (begins, payload) in enumerate(p for run in runs for p in payloads(run)):

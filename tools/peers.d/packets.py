@@ -86,10 +86,10 @@ def named(name, descriptors):
 
 def notifications():
     for k in range(64):
-        providers = b"".join(
-            sized(named(b"p%d.example.org" % p, b"\x5f\0" * (p % 3)) + b"".join(named(b"a" * (a % 60), b"\x5f\0" * (k % 4)) for a in range(k * p % 9)))
-            for p in range(k % 13))
-        payload = bytes([k % 6]) + sized(b"\x5f\0" * (7 * k)) + providers
+        payload = bytes([k % 6]) + sized(b"\x5f\0" * (7 * k))
+        for p in range(k % 13):
+            authorities = (named(b"a" * (a % 60), b"\x5f\0" * (k % 4)) for a in range(k * p % 9))
+            payload += sized(named(b"p%d.example.org" % p, b"\x5f\0" * (p % 3)) + b"".join(authorities))
         print(f"notification-{k:02}", 0x79, k % 2, 0x6DCA + k, k % 32, k // 2 % 2, k, 63, payload.hex())
     print("notification-common-to-the-limit", 0x79, 1, 1, 1, 1, 0, 0, (b"\x01" + sized(b"\x5f" * (4096 - 15))).hex())
     print("notification-816-providers", 0x79, 1, 1, 1, 1, 0, 0, (b"\x01" + sized(b"") + sized(named(b"", b"")) * 816).hex())
@@ -118,7 +118,8 @@ def dissected(status, want, got):
         columns = [c.split(",") if c else [] for c in line.rstrip("\n").split("\t")]
         if len(set(map(len, columns))) != 1:
             sys.exit(f"a frame whose sections have not each a table, a length, a CRC and its status: {columns}")
-        have += [(int(t, 0), int(n, 0), int(crc, 0), {"1": "GOOD", "0": "BAD"}.get(ok, ok)) for t, n, crc, ok in zip(*columns)]
+        for table, length, crc, ok in zip(*columns):
+            have.append((int(table, 0), int(length, 0), int(crc, 0), {"1": "GOOD", "0": "BAD"}.get(ok, ok)))
     compare(due, have)
 
 
@@ -126,7 +127,8 @@ def all_of(word, want, got):
     compare([(name, [name, word]) for name, _ in lines(want)], [words[:2] for words in lines(got)])
 
 
-calls = {"pack": pack, "flip": flip, "fields": fields, "notifications": notifications, "same": same, "dissected": dissected, "all": all_of}
+calls = {"pack": pack, "flip": flip, "fields": fields, "notifications": notifications, "same": same, "dissected": dissected,
+         "all": all_of}
 if len(sys.argv) < 2 or sys.argv[1] not in calls:
     sys.exit(__doc__)
 calls[sys.argv[1]](*sys.argv[2:])

@@ -79,7 +79,9 @@ static int make(dvbpsi_t *handle)
 int main(int argc, char **argv)
 {
     dvbpsi_t *handle = dvbpsi_new(say, DVBPSI_MSG_WARN);
-    int bad = !handle || argc < 2 ? 1 : argc == 3 && !strcmp(argv[1], "take") ? take(handle, argv[2]) : argc == 2 && !strcmp(argv[1], "make") ? make(handle) : 1;
+    int bad = 1;
+    if (handle && argc == 3 && !strcmp(argv[1], "take")) bad = take(handle, argv[2]);
+    if (handle && argc == 2 && !strcmp(argv[1], "make")) bad = make(handle);
     if (bad) fprintf(stderr, "theirs: usage: theirs take FILE | theirs make; or the file or a line cannot be read\n");
     if (handle) dvbpsi_delete(handle);
     return bad;

@@ -1,6 +1,7 @@
 /* stack_paint: what stack each call of the library takes when it runs, by the bytes that it changes on a painted stack. A line
-   has the call, the bytes from its caller's stack pointer down, its return address among them, and the input at which they
-   were most. Each answer is held to what it has to be, so that no refused path passes for an accepted one.
+   has the call, the bytes from its caller's stack pointer down, its return address among them, the bytes of what is handed in
+   on the stack above that, and the input at which they were most. Each answer is held to what it has to be, so that no refused
+   path passes for an accepted one.
    It is for x86-64, and uses no system headers, since another processor has none for it. */
 #include "eallunsa.h"
 typedef uint8_t u8;
@@ -51,13 +52,13 @@ static usize depth_of(u8 colour, code *site, code *f) {
     return (usize)stack + i < caller ? caller - (usize)stack - i : 0;
 }
 
-static struct { const char *call, *input; usize depth; } deepest[64];
+static struct { const char *call, *input; usize depth, handed; } deepest[64];
 static int wrong;
 
-static void note(const char *call, const char *input, usize depth) {
+static void note(const char *call, usize handed, const char *input, usize depth) {
     int i = 0;
     while (deepest[i].call && strcmp(deepest[i].call, call)) i++;
-    deepest[i].call = call;
+    deepest[i].call = call, deepest[i].handed = handed;
     if (deepest[i].depth < depth) deepest[i].depth = depth, deepest[i].input = input;
 }
 
@@ -175,46 +176,50 @@ static eallunsa_index index;
 static eallunsa_rct_header header;
 static usize refused(eallunsa_refusal r, usize else_told) { return r.number ? r.number : else_told; }
 
-#define SITE(f, type, told, ...) \
+/* handed: the bytes on the stack of what is handed in there, a record of more than 16 bytes, and what no register is left for.
+   Each takes a multiple of 8. */
+#define ON_STACK(record) ((sizeof(record) + 7) / 8 * 8)
+#define SITE(f, handed, type, told, ...) \
+    enum { handed_##f = handed }; \
     static type answer_##f; \
     static void site_##f(void) { answer_##f = ((__typeof__(&f))called)(__VA_ARGS__); } \
     static usize told_##f(void) { type *a = &answer_##f; return told; }
 #define TEXT body, body_size
 
-SITE(eallunsa_version, eallunsa_version_number, a->major * 100 + a->minor)
-SITE(eallunsa_crc, uint32_t, *a, b, k1)
-SITE(eallunsa_rct_read, eallunsa_rct_answer, refused(a->refusal, a->total), b, lent)
-SITE(eallunsa_rct_check, eallunsa_rct_answer, refused(a->refusal, a->total), b, lent)
-SITE(eallunsa_rct_link, eallunsa_link_answer, refused(a->refusal, k2 < 63 ? a->link.items[k2].promotional_text.length : 0),
-     b, lent, k1)
-SITE(eallunsa_rct_item, eallunsa_item_answer, refused(a->refusal, a->item.promotional_text.length), b, lent, k1, k2)
-SITE(eallunsa_rct_entry, eallunsa_entry_answer, refused(a->refusal, a->next), b, size - 4, k1)
-SITE(eallunsa_item_from, eallunsa_step_answer, refused(a->refusal, a->next), b, size - 4, k1)
-SITE(eallunsa_rct_make, eallunsa_edit_answer, refused(a->refusal, a->total), b, lent, header, 15, given, ROOM,
-     (eallunsa_range){loop_at + 2, k1})
-SITE(eallunsa_rct_append, eallunsa_edit_answer, refused(a->refusal, a->total), b, lent, TEXT, record)
-SITE(eallunsa_rct_replace, eallunsa_edit_answer, refused(a->refusal, a->total), b, lent, k1, TEXT, record)
-SITE(eallunsa_rct_index, eallunsa_index_answer, refused(a->refusal, k1 < 255 ? a->index.places[k1] : 0), b, lent)
-SITE(eallunsa_index_place, uint16_t, *a, index.places, 255, k1)
-SITE(eallunsa_set_has, uint8_t, *a, index.uri, k1)
-SITE(eallunsa_set_count, usize, *a, index.uri)
-SITE(eallunsa_rct_index_append, eallunsa_index_edit_answer, refused(a->refusal, a->index.places[k2]),
-     b, lent, TEXT, record, index)
-SITE(eallunsa_rct_index_replace, eallunsa_index_edit_answer, refused(a->refusal, a->index.places[k2]),
-     b, lent, k1, TEXT, record, index)
-SITE(eallunsa_rnt_read, eallunsa_rnt_answer, refused(a->refusal, a->total), b, lent)
-SITE(eallunsa_rnt_check, eallunsa_rnt_answer, refused(a->refusal, a->total), b, lent)
-SITE(eallunsa_rnt_provider, eallunsa_provider_answer, refused(a->refusal, a->number_of_authorities), b, lent, k1)
-SITE(eallunsa_rnt_authority, eallunsa_authority_answer, refused(a->refusal, a->authority.name.length), b, lent, k1, k2)
-SITE(eallunsa_rnt_provider_at, eallunsa_provider_found, refused(a->refusal, a->provider.end), b, lent, end_at, k1)
-SITE(eallunsa_rnt_authority_at, eallunsa_authority_found, refused(a->refusal, a->next), b, lent, end_at, k1)
+SITE(eallunsa_version, 0, eallunsa_version_number, a->major * 100 + a->minor)
+SITE(eallunsa_crc, 0, uint32_t, *a, b, k1)
+SITE(eallunsa_rct_read, 0, eallunsa_rct_answer, refused(a->refusal, a->total), b, lent)
+SITE(eallunsa_rct_check, 0, eallunsa_rct_answer, refused(a->refusal, a->total), b, lent)
+SITE(eallunsa_rct_link, 0, eallunsa_link_answer,
+     refused(a->refusal, k2 < 63 ? a->link.items[k2].promotional_text.length : 0), b, lent, k1)
+SITE(eallunsa_rct_item, 0, eallunsa_item_answer, refused(a->refusal, a->item.promotional_text.length), b, lent, k1, k2)
+SITE(eallunsa_rct_entry, 0, eallunsa_entry_answer, refused(a->refusal, a->next), b, size - 4, k1)
+SITE(eallunsa_item_from, 0, eallunsa_step_answer, refused(a->refusal, a->next), b, size - 4, k1)
+SITE(eallunsa_rct_make, 2 * ON_STACK(usize) + ON_STACK(eallunsa_range), eallunsa_edit_answer, refused(a->refusal, a->total),
+     b, lent, header, 15, given, ROOM, (eallunsa_range){loop_at + 2, k1})
+SITE(eallunsa_rct_append, ON_STACK(record), eallunsa_edit_answer, refused(a->refusal, a->total), b, lent, TEXT, record)
+SITE(eallunsa_rct_replace, ON_STACK(record), eallunsa_edit_answer, refused(a->refusal, a->total), b, lent, k1, TEXT, record)
+SITE(eallunsa_rct_index, 0, eallunsa_index_answer, refused(a->refusal, k1 < 255 ? a->index.places[k1] : 0), b, lent)
+SITE(eallunsa_index_place, 0, uint16_t, *a, index.places, 255, k1)
+SITE(eallunsa_set_has, ON_STACK(index.uri), uint8_t, *a, index.uri, k1)
+SITE(eallunsa_set_count, ON_STACK(index.uri), usize, *a, index.uri)
+SITE(eallunsa_rct_index_append, ON_STACK(record) + ON_STACK(index), eallunsa_index_edit_answer,
+     refused(a->refusal, a->index.places[k2]), b, lent, TEXT, record, index)
+SITE(eallunsa_rct_index_replace, ON_STACK(record) + ON_STACK(index), eallunsa_index_edit_answer,
+     refused(a->refusal, a->index.places[k2]), b, lent, k1, TEXT, record, index)
+SITE(eallunsa_rnt_read, 0, eallunsa_rnt_answer, refused(a->refusal, a->total), b, lent)
+SITE(eallunsa_rnt_check, 0, eallunsa_rnt_answer, refused(a->refusal, a->total), b, lent)
+SITE(eallunsa_rnt_provider, 0, eallunsa_provider_answer, refused(a->refusal, a->number_of_authorities), b, lent, k1)
+SITE(eallunsa_rnt_authority, 0, eallunsa_authority_answer, refused(a->refusal, a->authority.name.length), b, lent, k1, k2)
+SITE(eallunsa_rnt_provider_at, 0, eallunsa_provider_found, refused(a->refusal, a->provider.end), b, lent, end_at, k1)
+SITE(eallunsa_rnt_authority_at, 0, eallunsa_authority_found, refused(a->refusal, a->next), b, lent, end_at, k1)
 
 /* ---- rows: a line for a call and an input */
 
-static void row(code *f, code *site, usize (*told)(void), const char *call, const char *input, usize want, usize total) {
+static void row(code *f, code *site, usize (*told)(void), const char *call, usize handed, const char *input, usize want, usize total) {
     for (int k = 0; k < 2; k++) { /* what is written in the one colour is seen on the other */
         memcpy(b, given, ROOM);
-        note(call, input, depth_of(k ? 0xC3 : 0x5A, site, f));
+        note(call, handed, input, depth_of(k ? 0xC3 : 0x5A, site, f));
         int stands = total ? total_of(b) == total && crc_of(b, total) == 0 : memcmp(b, given, ROOM) == 0;
         if (told() == want && stands) continue;
         wrong = 1;
@@ -224,7 +229,7 @@ static void row(code *f, code *site, usize (*told)(void), const char *call, cons
 
 /* The call, the input's name, the answer that is due, and the bytes of the section that is in the buffer then (0: the buffer
    is as before). */
-#define EDIT(f, input, want, total) row((code *)f, site_##f, told_##f, #f, input, want, total)
+#define EDIT(f, input, want, total) row((code *)f, site_##f, told_##f, #f, handed_##f, input, want, total)
 #define READ(f, input, want) EDIT(f, input, want, 0)
 
 static const usize none = ~0UL; /* a number that nothing has */
@@ -466,7 +471,7 @@ static void memory(void) {
         for (usize i = 0; i < 10; i++) { /* each in both colours; memmove up and down over itself */
             usize k = i / 2, up = i % 2;
             words[0] = (usize)b + 9 * up, words[1] = (usize)(k == 1 ? b + 5 : body), words[2] = n;
-            note(of[k].name, "1 .. 4,096 bytes", depth_of(up ? 0xC3 : 0x5A, site_memory, of[k].f));
+            note(of[k].name, 0, "1 .. 4,096 bytes", depth_of(up ? 0xC3 : 0x5A, site_memory, of[k].f));
             if (k < 3 && returned != words[0]) wrong = 1, printf("wrong: %s of %lu bytes\n", of[k].name, n);
         }
 }
@@ -475,6 +480,7 @@ int main(void) {
     memory();
     many_links(), large_links(), moved_tails(), loops(), above_the_limit(), locators(), refusals(), making(), questions();
     notifications();
-    for (int i = 0; deepest[i].call; i++) printf("%s\t%lu\t%s\n", deepest[i].call, deepest[i].depth, deepest[i].input);
+    for (int i = 0; deepest[i].call; i++)
+        printf("%s\t%lu\t%lu\t%s\n", deepest[i].call, deepest[i].depth, deepest[i].handed, deepest[i].input);
     return wrong;
 }

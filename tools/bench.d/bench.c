@@ -120,7 +120,7 @@ static void make_sections(void)
     }
 }
 
-/* ---- jobs: a number that all of the answer goes into where it is cheap, and the answers in full beside it */
+/* ---- jobs: each answers a number that says whether it was refused, and leaves its records where they cannot be left out */
 
 static eallunsa_rct_answer our_answer, plain_answer;
 static eallunsa_link_answer our_link;
@@ -434,7 +434,9 @@ int main(int argc, char **argv)
     if (rounds < 1 || rounds > MOST_ROUNDS) rounds = MOST_ROUNDS;
     make_sections();
     compare();
-    printf("Both answer the same on %lu inputs.\n\n", compared);
+    printf("Both answer the same on %lu inputs. The sections:", compared);
+    for (now = sections; now < sections + SECTIONS; now++) printf("%s %s (%zu bytes)", now > sections ? "," : "", now->name, now->total);
+    printf(".\n\n");
     printf("| job | section | ours, ns | C, ns | ratio, best rounds | ratio, median rounds |\n|---|---|---:|---:|---:|---:|\n");
     for (size_t j = 0; j < JOBS; j++)
         for (now = sections; now < sections + SECTIONS; now++)

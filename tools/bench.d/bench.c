@@ -435,7 +435,8 @@ int main(int argc, char **argv)
     make_sections();
     compare();
     printf("Both answer the same on %lu inputs. The sections:", compared);
-    for (now = sections; now < sections + SECTIONS; now++) printf("%s %s (%zu bytes)", now > sections ? "," : "", now->name, now->total);
+    for (now = sections; now < sections + SECTIONS; now++)
+        printf("%s %s (%zu bytes)", now > sections ? "," : "", now->name, now->total);
     printf(".\n\n");
     printf("| job | section | ours, ns | C, ns | ratio, best rounds | ratio, median rounds |\n|---|---|---:|---:|---:|---:|\n");
     for (size_t j = 0; j < JOBS; j++)

@@ -91,6 +91,7 @@ impl StepAnswer {
 }
 
 impl EntryAnswer {
+    // Each arm returns, so that its answer is stored where the caller wants it and is not merged with the other's.
     pub fn of(read: EntryRead) -> EntryAnswer
         ensures { λ r. ⌜ r ≡ entryAnswer read ⌝ }
     {
@@ -99,18 +100,22 @@ impl EntryAnswer {
                 fields,
                 items_at,
                 next,
-            } => EntryAnswer {
-                refusal: fine(),
-                fields: FlatFields::of(fields),
-                items_at,
-                next,
-            },
-            EntryRead::Refused(refusal) => EntryAnswer {
-                refusal,
-                fields: FlatFields::of(LinkFields::none()),
-                items_at: 0,
-                next: 0,
-            },
+            } => {
+                return EntryAnswer {
+                    refusal: fine(),
+                    fields: FlatFields::of(fields),
+                    items_at,
+                    next,
+                };
+            }
+            EntryRead::Refused(refusal) => {
+                return EntryAnswer {
+                    refusal,
+                    fields: FlatFields::of(LinkFields::none()),
+                    items_at: 0,
+                    next: 0,
+                };
+            }
         }
     }
 }

@@ -13,6 +13,10 @@ fine-requires c κs = search needs
 of-requires : tie.Need-of-requires
 of-requires c κs = search needs
 
+returns : tie.Need-returns
+unfolding entryAnswer
+returns c = rw (c .before .before .before .read .given .1, c .before .fine .ensures, c .of .ensures)
+
 enum-known-read-2 : tie.Need-enum-known-read-2
 enum-known-read-2 c = search needs
 
@@ -21,10 +25,6 @@ none-requires c κs = search needs
 
 of-requires-2 : tie.Need-of-requires-2
 of-requires-2 c κs = search needs
-
-returns : tie.Need-returns
-unfolding entryAnswer
-returns c = rw (c .before .before .before .read .given .1, c .before .fine .ensures, c .of .ensures)
 
 returns-2 : tie.Need-returns-2
 unfolding entryAnswer
@@ -37,8 +37,8 @@ of-spec =
     enum-known-read
     fine-requires
     of-requires
+    returns
     enum-known-read-2
     none-requires
     of-requires-2
-    returns
     returns-2)

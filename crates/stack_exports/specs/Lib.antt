@@ -1,2 +1,0 @@
--- What the exports answer.
-pub mod Told

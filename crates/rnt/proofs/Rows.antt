@@ -1,4 +1,4 @@
--- Sections byte by byte: one that is accepted, with its records, and one for each row of request 101 that refuses, with the numbers and figures as the request gives them; request 102's, of a length that would be refused behind it; and request 105's, right behind 3, whatever stands behind that.
+-- Sections byte by byte: one that is accepted, with its records, and one for each row of docs/REFUSALS.md that refuses, with its number and figures; 38, of a length that would be refused behind it; and 28, right behind 3, whatever stands behind that.
 -- Assumes nothing.
 use Prim.Native.Nat.{ℕ, _+_, _/_, _%_}
 use mathlib.Core.Path.{_≡_, refl}

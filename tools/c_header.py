@@ -6,6 +6,7 @@
   has the type that its source says, and each record its size and alignment, and of each field place, width and kind.
 - The refusals: the two lists of the header are the two tables of docs/REFUSALS.md, and each function's comment has the
   refusals of the call that it makes, in their order. The wrapper in Rust has the same list.
+- The version in README.md and in the wrapper's Cargo.toml is that of CHANGELOG.md.
 
 It prints what differs, a line each, and exits with 1; to the compiler of C it leaves what only that one can tell.
 """
@@ -271,6 +272,16 @@ def by_words(name):
     return found
 
 
+# ---- the version
+
+
+def version():
+    """Wherever the version is written, it is that of the changelog's first heading; the library's own is asked for."""
+    (first, *_) = re.findall(r"^## (.*)", (root / "CHANGELOG.md").read_text(), re.M)
+    for path, where in (("README.md", r"^Version (\S+)"), ("examples/rust/Cargo.toml", r'^version = "(.*)"')):
+        same(f"version in {path}", re.findall(where, (root / path).read_text(), re.M), [first])
+
+
 # ---- all of it
 
 if len(sys.argv) != 3:
@@ -288,6 +299,7 @@ for name, (given, answer, _) in functions.items():
         function(name, given, answer)
 same_names("records of the header", structs, fitted.values())
 refusals()
+version()
 for line in bad:
     print("c_header: " + line)
 pathlib.Path(out).write_text('#include "eallunsa.h"\n' + "\n".join(dict.fromkeys(facts)) + "\n")

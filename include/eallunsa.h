@@ -44,10 +44,10 @@ typedef struct {
 
 /* The list. It is fixed: no call has another number. Each is given exactly under its condition, and of several
  * that hold the first in the call's order is answered; each call below has its order. The two figures stand
- * behind the condition. `need` is the place where a missing field ends, `have` the number of bytes that there
- * are, both counted from where it is said; `declared` is a length that a field states, `available` the number
- * of bytes left for it. The payload of a section are its bytes before the CRC. docs/REFUSALS.md has for each
- * what to do about it. */
+ * behind the condition. `need` is the place where a missing field ends, `have` the place where the bytes end
+ * that it has to stand in, both counted from where it is said; `declared` is a length that a field states,
+ * `available` the number of bytes left for it. The payload of a section are its bytes before the CRC.
+ * docs/REFUSALS.md has for each what to do about it. */
 enum {
     /* Fewer bytes were lent than the smallest section of the table has: its bytes (related content 17,
      * resolution notification 15), bytes lent. */

@@ -4,15 +4,6 @@ use borrow.Author.Needs.{needs}
 use Rattle.flat_answers.proofs.refusal_of.Statement.{statement}
 use Rattle.flat_answers.proofs.refusal_of.Tie as tie
 
-enum-told : tie.Need-enum-told
-enum-told c = search needs
-
-fine-requires : tie.Need-fine-requires
-fine-requires c κs = search needs
-
-enum-known-verdict : tie.Need-enum-known-verdict
-enum-known-verdict c = search needs
-
 returns : tie.Need-returns
 unfolding refusalOf
 returns c = rw (c .before .enum-told .given .1) (c .fine .ensures)
@@ -22,4 +13,4 @@ unfolding refusalOf
 returns-2 c = rw (c .before .verdict .given .1)
 
 pub refusal-of-spec : {M : Type 1} → statement M
-refusal-of-spec = tie.close (tie.spec enum-told fine-requires enum-known-verdict returns returns-2)
+refusal-of-spec = tie.close (tie.spec (search needs) (search needs) (search needs) returns returns-2)

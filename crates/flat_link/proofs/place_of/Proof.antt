@@ -3,12 +3,6 @@ use borrow.Author.Needs.{needs}
 use Rattle.flat_link.proofs.place_of.Statement.{statement}
 use Rattle.flat_link.proofs.place_of.Tie as tie
 
-is-set-requires : tie.Need-is-set-requires
-is-set-requires c κs = search needs
-
-locator-requires : tie.Need-locator-requires
-locator-requires c κs = search needs
-
 returns : tie.Need-returns
 returns c = rw (← c .before .before .is-set .ensures, c .before .if1 .taken, c .locator .ensures)
 
@@ -16,4 +10,4 @@ returns-2 : tie.Need-returns-2
 returns-2 c = rw (← c .before .is-set .ensures, c .if1 .left)
 
 pub place-of-spec : {M : Type 1} → statement M
-place-of-spec = tie.close (tie.spec is-set-requires locator-requires returns returns-2)
+place-of-spec = tie.close (tie.spec (search needs) (search needs) returns returns-2)

@@ -3,14 +3,8 @@ use borrow.Author.Needs.{needs}
 use Rattle.eallunsa.proofs.indexing.eallunsa_rct_index.Statement.{statement}
 use Rattle.eallunsa.proofs.indexing.eallunsa_rct_index.Tie as tie
 
-build-index-requires : tie.Need-build-index-requires
-build-index-requires c κs = search needs
-
-of-requires : tie.Need-of-requires
-of-requires c κs = search needs
-
 returns : tie.Need-returns
 returns c = rw (← c .before .build-index .ensures) (c .of .ensures)
 
 pub eallunsa-rct-index-spec : {M : Type 1} → statement M
-eallunsa-rct-index-spec = tie.close (tie.spec build-index-requires of-requires returns)
+eallunsa-rct-index-spec = tie.close (tie.spec (search needs) (search needs) returns)

@@ -6,24 +6,6 @@ use borrow.Author.Needs.{needs}
 use Rattle.eallunsa.proofs.indexing.eallunsa_rct_index_append.Statement.{statement}
 use Rattle.eallunsa.proofs.indexing.eallunsa_rct_index_append.Tie as tie
 
-fields-requires : tie.Need-fields-requires
-fields-requires c κs = search needs
-
-of-requires : tie.Need-of-requires
-of-requires c κs = search needs
-
-put-last-requires : tie.Need-put-last-requires
-put-last-requires c κs = search needs
-
-last-of-requires : tie.Need-last-of-requires
-last-of-requires c κs = search needs
-
-answered-requires : tie.Need-answered-requires
-answered-requires c κs = search needs
-
-same-length : tie.Need-same-length
-same-length c = search needs
-
 returns : tie.Need-returns
 unfolding infoOf
 returns c =
@@ -36,12 +18,4 @@ returns c =
 
 pub eallunsa-rct-index-append-spec : {M : Type 1} → statement M
 eallunsa-rct-index-append-spec =
-    tie.close
-    (tie.spec
-    fields-requires
-    of-requires
-    put-last-requires
-    last-of-requires
-    answered-requires
-    same-length
-    returns)
+    tie.close (tie.spec (search needs) (search needs) (search needs) (search needs) (search needs) (search needs) returns)

@@ -6,21 +6,6 @@ use borrow.Author.Needs.{needs}
 use Rattle.eallunsa.proofs.indexing.eallunsa_rct_index_replace.Statement.{statement}
 use Rattle.eallunsa.proofs.indexing.eallunsa_rct_index_replace.Tie as tie
 
-fields-requires : tie.Need-fields-requires
-fields-requires c κs = search needs
-
-of-requires : tie.Need-of-requires
-of-requires c κs = search needs
-
-put-over-requires : tie.Need-put-over-requires
-put-over-requires c κs = search needs
-
-answered-requires : tie.Need-answered-requires
-answered-requires c κs = search needs
-
-same-length : tie.Need-same-length
-same-length c = search needs
-
 returns : tie.Need-returns
 unfolding infoOf
 returns c =
@@ -33,5 +18,4 @@ returns c =
 
 pub eallunsa-rct-index-replace-spec : {M : Type 1} → statement M
 eallunsa-rct-index-replace-spec =
-    tie.close
-    (tie.spec fields-requires of-requires put-over-requires answered-requires same-length returns)
+    tie.close (tie.spec (search needs) (search needs) (search needs) (search needs) (search needs) returns)

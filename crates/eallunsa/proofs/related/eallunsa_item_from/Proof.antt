@@ -3,14 +3,8 @@ use borrow.Author.Needs.{needs}
 use Rattle.eallunsa.proofs.related.eallunsa_item_from.Statement.{statement}
 use Rattle.eallunsa.proofs.related.eallunsa_item_from.Tie as tie
 
-item-from-requires : tie.Need-item-from-requires
-item-from-requires c κs = search needs
-
-of-requires : tie.Need-of-requires
-of-requires c κs = search needs
-
 returns : tie.Need-returns
 returns c = rw (← c .before .item-from .ensures) (c .of .ensures)
 
 pub eallunsa-item-from-spec : {M : Type 1} → statement M
-eallunsa-item-from-spec = tie.close (tie.spec item-from-requires of-requires returns)
+eallunsa-item-from-spec = tie.close (tie.spec (search needs) (search needs) returns)

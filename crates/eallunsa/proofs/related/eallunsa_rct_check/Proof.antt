@@ -5,14 +5,8 @@ use borrow.Author.Needs.{needs}
 use Rattle.eallunsa.proofs.related.eallunsa_rct_check.Statement.{statement}
 use Rattle.eallunsa.proofs.related.eallunsa_rct_check.Tie as tie
 
-check-section-requires : tie.Need-check-section-requires
-check-section-requires c κs = search needs
-
-of-requires : tie.Need-of-requires
-of-requires c κs = search needs
-
 returns : tie.Need-returns
 returns c = c .of .ensures ∙ ap rctAnswer (c .before .check-section .ensures)
 
 pub eallunsa-rct-check-spec : {M : Type 1} → statement M
-eallunsa-rct-check-spec = tie.close (tie.spec check-section-requires of-requires returns)
+eallunsa-rct-check-spec = tie.close (tie.spec (search needs) (search needs) returns)

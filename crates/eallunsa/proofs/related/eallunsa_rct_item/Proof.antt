@@ -3,14 +3,8 @@ use borrow.Author.Needs.{needs}
 use Rattle.eallunsa.proofs.related.eallunsa_rct_item.Statement.{statement}
 use Rattle.eallunsa.proofs.related.eallunsa_rct_item.Tie as tie
 
-read-item-requires : tie.Need-read-item-requires
-read-item-requires c κs = search needs
-
-of-requires : tie.Need-of-requires
-of-requires c κs = search needs
-
 returns : tie.Need-returns
 returns c = rw (← c .before .read-item .ensures) (c .of .ensures)
 
 pub eallunsa-rct-item-spec : {M : Type 1} → statement M
-eallunsa-rct-item-spec = tie.close (tie.spec read-item-requires of-requires returns)
+eallunsa-rct-item-spec = tie.close (tie.spec (search needs) (search needs) returns)

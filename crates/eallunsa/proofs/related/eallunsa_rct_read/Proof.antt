@@ -3,14 +3,8 @@ use borrow.Author.Needs.{needs}
 use Rattle.eallunsa.proofs.related.eallunsa_rct_read.Statement.{statement}
 use Rattle.eallunsa.proofs.related.eallunsa_rct_read.Tie as tie
 
-read-section-requires : tie.Need-read-section-requires
-read-section-requires c κs = search needs
-
-of-requires : tie.Need-of-requires
-of-requires c κs = search needs
-
 returns : tie.Need-returns
 returns c = rw (← c .before .read-section .ensures) (c .of .ensures)
 
 pub eallunsa-rct-read-spec : {M : Type 1} → statement M
-eallunsa-rct-read-spec = tie.close (tie.spec read-section-requires of-requires returns)
+eallunsa-rct-read-spec = tie.close (tie.spec (search needs) (search needs) returns)

@@ -3,14 +3,8 @@ use borrow.Author.Needs.{needs}
 use Rattle.eallunsa.proofs.resolution.eallunsa_rnt_authority.Statement.{statement}
 use Rattle.eallunsa.proofs.resolution.eallunsa_rnt_authority.Tie as tie
 
-read-authority-requires : tie.Need-read-authority-requires
-read-authority-requires c κs = search needs
-
-of-requires : tie.Need-of-requires
-of-requires c κs = search needs
-
 returns : tie.Need-returns
 returns c = rw (← c .before .read-authority .ensures) (c .of .ensures)
 
 pub eallunsa-rnt-authority-spec : {M : Type 1} → statement M
-eallunsa-rnt-authority-spec = tie.close (tie.spec read-authority-requires of-requires returns)
+eallunsa-rnt-authority-spec = tie.close (tie.spec (search needs) (search needs) returns)

@@ -5,14 +5,8 @@ use borrow.Author.Needs.{needs}
 use Rattle.eallunsa.proofs.resolution.eallunsa_rnt_provider_at.Statement.{statement}
 use Rattle.eallunsa.proofs.resolution.eallunsa_rnt_provider_at.Tie as tie
 
-read-provider-requires : tie.Need-read-provider-requires
-read-provider-requires c κs = search needs
-
-of-requires : tie.Need-of-requires
-of-requires c κs = search needs
-
 returns : tie.Need-returns
 returns c = c .of .ensures ∙ ap providerFoundAnswer (c .before .read-provider .ensures)
 
 pub eallunsa-rnt-provider-at-spec : {M : Type 1} → statement M
-eallunsa-rnt-provider-at-spec = tie.close (tie.spec read-provider-requires of-requires returns)
+eallunsa-rnt-provider-at-spec = tie.close (tie.spec (search needs) (search needs) returns)

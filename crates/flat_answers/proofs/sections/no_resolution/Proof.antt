@@ -3,11 +3,8 @@ use borrow.Author.Needs.{needs}
 use Rattle.flat_answers.proofs.sections.no_resolution.Statement.{statement}
 use Rattle.flat_answers.proofs.sections.no_resolution.Tie as tie
 
-none-requires : tie.Need-none-requires
-none-requires c κs = search needs
-
 returns : tie.Need-returns
 returns c = rw (c .none .ensures)
 
 pub no-resolution-spec : {M : Type 1} → statement M
-no-resolution-spec = tie.close (tie.spec none-requires returns)
+no-resolution-spec = tie.close (tie.spec (search needs) returns)

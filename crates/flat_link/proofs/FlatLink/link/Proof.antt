@@ -4,12 +4,9 @@ use borrow.Author.Needs.{needs}
 use Rattle.flat_link.proofs.FlatLink.link.Statement.{statement}
 use Rattle.flat_link.proofs.FlatLink.link.Tie as tie
 
-fields-requires : tie.Need-fields-requires
-fields-requires c κs = search needs
-
 returns : tie.Need-returns
 unfolding infoOf
 returns c = rw (c .fields2 .ensures)
 
 pub link-spec : {M : Type 1} → statement M
-link-spec = tie.close (tie.spec fields-requires returns)
+link-spec = tie.close (tie.spec (search needs) returns)

@@ -4,12 +4,9 @@ use borrow.Author.Needs.{needs}
 use Rattle.flat_answers.proofs.edits.IndexEditAnswer.of.Statement.{statement}
 use Rattle.flat_answers.proofs.edits.IndexEditAnswer.of.Tie as tie
 
-refusal-of-requires : tie.Need-refusal-of-requires
-refusal-of-requires c κs = search needs
-
 returns : tie.Need-returns
 unfolding indexEditAnswer
 returns c = rw (c .refusal-of .ensures)
 
 pub of-spec : {M : Type 1} → statement M
-of-spec = tie.close (tie.spec refusal-of-requires returns)
+of-spec = tie.close (tie.spec (search needs) returns)

@@ -4,18 +4,6 @@ use borrow.Author.Needs.{needs}
 use Rattle.flat_answers.proofs.links.ItemAnswer.of.Statement.{statement}
 use Rattle.flat_answers.proofs.links.ItemAnswer.of.Tie as tie
 
-enum-known-read : tie.Need-enum-known-read
-enum-known-read c = search needs
-
-fine-requires : tie.Need-fine-requires
-fine-requires c κs = search needs
-
-enum-known-read-2 : tie.Need-enum-known-read-2
-enum-known-read-2 c = search needs
-
-none-requires : tie.Need-none-requires
-none-requires c κs = search needs
-
 returns : tie.Need-returns
 unfolding itemAnswer
 returns c = rw (c .before .before .read .given .1, c .fine .ensures)
@@ -26,5 +14,4 @@ returns-2 c = rw (c .before .before .read2 .given .1, c .none .ensures)
 
 pub of-spec : {M : Type 1} → statement M
 of-spec =
-    tie.close
-    (tie.spec enum-known-read fine-requires enum-known-read-2 none-requires returns returns-2)
+    tie.close (tie.spec (search needs) (search needs) (search needs) (search needs) returns returns-2)

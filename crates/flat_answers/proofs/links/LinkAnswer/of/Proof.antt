@@ -4,15 +4,9 @@ use borrow.Author.Needs.{needs}
 use Rattle.flat_answers.proofs.links.LinkAnswer.of.Statement.{statement}
 use Rattle.flat_answers.proofs.links.LinkAnswer.of.Tie as tie
 
-refusal-of-requires : tie.Need-refusal-of-requires
-refusal-of-requires c κs = search needs
-
-of-requires : tie.Need-of-requires
-of-requires c κs = search needs
-
 returns : tie.Need-returns
 unfolding linkAnswer
 returns c = rw (c .before .refusal-of .ensures, c .of .ensures)
 
 pub of-spec : {M : Type 1} → statement M
-of-spec = tie.close (tie.spec refusal-of-requires of-requires returns)
+of-spec = tie.close (tie.spec (search needs) (search needs) returns)

@@ -3,11 +3,8 @@ use borrow.Author.Needs.{needs}
 use Rattle.flat_answers.proofs.sections.FlatRctHeader.header.Statement.{statement}
 use Rattle.flat_answers.proofs.sections.FlatRctHeader.header.Tie as tie
 
-header-requires : tie.Need-header-requires
-header-requires c κs = search needs
-
 returns : tie.Need-returns
 returns c = rw (c .header .ensures)
 
 pub header-spec : {M : Type 1} → statement M
-header-spec = tie.close (tie.spec header-requires returns)
+header-spec = tie.close (tie.spec (search needs) returns)

@@ -3,11 +3,8 @@ use borrow.Author.Needs.{needs}
 use Rattle.flat_answers.proofs.sections.FlatRctHeader.of.Statement.{statement}
 use Rattle.flat_answers.proofs.sections.FlatRctHeader.of.Tie as tie
 
-of-requires : tie.Need-of-requires
-of-requires c κs = search needs
-
 returns : tie.Need-returns
 returns c = rw (c .of .ensures)
 
 pub of-spec : {M : Type 1} → statement M
-of-spec = tie.close (tie.spec of-requires returns)
+of-spec = tie.close (tie.spec (search needs) returns)

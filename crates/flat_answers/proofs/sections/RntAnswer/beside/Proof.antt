@@ -4,12 +4,9 @@ use borrow.Author.Needs.{needs}
 use Rattle.flat_answers.proofs.sections.RntAnswer.beside.Statement.{statement}
 use Rattle.flat_answers.proofs.sections.RntAnswer.beside.Tie as tie
 
-of-requires : tie.Need-of-requires
-of-requires c κs = search needs
-
 returns : tie.Need-returns
 unfolding rntNumbers
 returns c = rw (c .of .ensures)
 
 pub beside-spec : {M : Type 1} → statement M
-beside-spec = tie.close (tie.spec of-requires returns)
+beside-spec = tie.close (tie.spec (search needs) returns)

@@ -3,18 +3,6 @@ use borrow.Author.Needs.{needs}
 use Rattle.flat_link.proofs.locators.FlatIdentifier.of.Statement.{statement}
 use Rattle.flat_link.proofs.locators.FlatIdentifier.of.Tie as tie
 
-enum-told : tie.Need-enum-told
-enum-told c = search needs
-
-enum-known-identifier : tie.Need-enum-known-identifier
-enum-known-identifier c = search needs
-
-enum-known-identifier-2 : tie.Need-enum-known-identifier-2
-enum-known-identifier-2 c = search needs
-
-enum-known-identifier-3 : tie.Need-enum-known-identifier-3
-enum-known-identifier-3 c = search needs
-
 returns : tie.Need-returns
 returns c = rw (c .enum-told .given .1)
 
@@ -29,13 +17,4 @@ returns-4 c = rw (c .before .identifier3 .given .1)
 
 pub of-spec : {M : Type 1} → statement M
 of-spec =
-    tie.close
-    (tie.spec
-    enum-told
-    enum-known-identifier
-    enum-known-identifier-2
-    enum-known-identifier-3
-    returns
-    returns-2
-    returns-3
-    returns-4)
+    tie.close (tie.spec (search needs) (search needs) (search needs) (search needs) returns returns-2 returns-3 returns-4)

@@ -3,12 +3,6 @@ use borrow.Author.Needs.{needs}
 use Rattle.flat_link.proofs.locators.FlatWindows.of.Statement.{statement}
 use Rattle.flat_link.proofs.locators.FlatWindows.of.Tie as tie
 
-enum-told : tie.Need-enum-told
-enum-told c = search needs
-
-enum-known-windows : tie.Need-enum-known-windows
-enum-known-windows c = search needs
-
 returns : tie.Need-returns
 returns c = rw (c .enum-told .given .1)
 
@@ -16,4 +10,4 @@ returns-2 : tie.Need-returns-2
 returns-2 c = rw (c .before .windows .given .1)
 
 pub of-spec : {M : Type 1} → statement M
-of-spec = tie.close (tie.spec enum-told enum-known-windows returns returns-2)
+of-spec = tie.close (tie.spec (search needs) (search needs) returns returns-2)

@@ -3,9 +3,6 @@ use borrow.Author.Needs.{needs}
 use Rattle.flat_link.proofs.locators.FlatWindows.windows.Statement.{statement}
 use Rattle.flat_link.proofs.locators.FlatWindows.windows.Tie as tie
 
-is-set-requires : tie.Need-is-set-requires
-is-set-requires c κs = search needs
-
 returns : tie.Need-returns
 returns c = rw (← c .before .is-set .ensures, c .if1 .taken)
 
@@ -13,4 +10,4 @@ returns-2 : tie.Need-returns-2
 returns-2 c = rw (← c .before .is-set .ensures, c .if1 .left)
 
 pub windows-spec : {M : Type 1} → statement M
-windows-spec = tie.close (tie.spec is-set-requires returns returns-2)
+windows-spec = tie.close (tie.spec (search needs) returns returns-2)

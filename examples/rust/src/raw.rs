@@ -108,6 +108,8 @@ records! {
     }
     ProviderAnswer { refusal: Refusal, provider: Provider, number_of_authorities: usize, }
     AuthorityAnswer { refusal: Refusal, authority: Authority, }
+    ProviderFound { refusal: Refusal, provider: Provider, }
+    AuthorityFound { refusal: Refusal, authority: Authority, next: u16, }
 }
 
 extern "C" {
@@ -162,4 +164,6 @@ extern "C" {
     pub fn eallunsa_rnt_check(s: *const u8, n: usize) -> RntAnswer;
     pub fn eallunsa_rnt_provider(s: *const u8, n: usize, number: usize) -> ProviderAnswer;
     pub fn eallunsa_rnt_authority(s: *const u8, n: usize, number: usize, authority: usize) -> AuthorityAnswer;
+    pub fn eallunsa_rnt_provider_at(s: *const u8, n: usize, end: u16, at: u16) -> ProviderFound;
+    pub fn eallunsa_rnt_authority_at(s: *const u8, n: usize, end: u16, at: u16) -> AuthorityFound;
 }

@@ -15,6 +15,8 @@ pub struct Section<'a> {
     pub reserved_common_descriptors_length: u16,
     pub common_descriptors: &'a [u8],
     pub number_of_providers: usize,
+    /// Where the first provider stands, and where the last one ends: no section has places above 16 bits.
+    providers: (u16, u16),
 }
 
 /// A provider, without its authorities.
@@ -51,12 +53,14 @@ pub fn check(s: &[u8]) -> Result<Section<'_>, Refusal> {
 
 fn section(s: &[u8], answer: raw::RntAnswer) -> Result<Section<'_>, Refusal> {
     fine(answer.refusal)?;
+    let common = answer.common_descriptors;
     Ok(Section {
+        providers: ((common.start + common.length) as u16, answer.total.saturating_sub(4) as u16),
         bytes: &s[..answer.total],
         header: Header::of(answer.header),
         context_id_type: answer.context_id_type,
         reserved_common_descriptors_length: answer.reserved_common_descriptors_length,
-        common_descriptors: part(s, answer.common_descriptors),
+        common_descriptors: part(s, common),
         number_of_providers: answer.number_of_providers,
     })
 }
@@ -65,25 +69,65 @@ fn section(s: &[u8], answer: raw::RntAnswer) -> Result<Section<'_>, Refusal> {
 pub fn provider(s: &[u8], number: usize) -> Result<Provider<'_>, Refusal> {
     let answer = unsafe { raw::eallunsa_rnt_provider(s.as_ptr(), s.len(), number) };
     fine(answer.refusal)?;
-    Ok(Provider {
-        reserved_info_length: answer.provider.reserved_info_length,
-        name: part(s, answer.provider.name),
-        reserved_descriptors_length: answer.provider.reserved_descriptors_length,
-        descriptors: part(s, answer.provider.descriptors),
-        number_of_authorities: answer.number_of_authorities,
-    })
+    Ok(Provider::of(s, answer.provider, answer.number_of_authorities))
 }
 
 /// Authority by number of a provider by number.
 pub fn authority(s: &[u8], number: usize, authority: usize) -> Result<Authority<'_>, Refusal> {
     let answer = unsafe { raw::eallunsa_rnt_authority(s.as_ptr(), s.len(), number, authority) };
     fine(answer.refusal)?;
-    Ok(Authority {
-        name: part(s, answer.authority.name),
-        reserved: answer.authority.reserved,
-        crid_authority_policy: answer.authority.crid_authority_policy,
-        descriptors: part(s, answer.authority.descriptors),
-    })
+    Ok(Authority::of(s, answer.authority))
+}
+
+impl<'a> Section<'a> {
+    /// Its providers, each with its authorities, one after the other, in one walk.
+    pub fn providers(&self) -> impl Iterator<Item = (Provider<'a>, Vec<Authority<'a>>)> {
+        let (s, (mut at, end)) = (self.bytes, self.providers);
+        (0..self.number_of_providers).map_while(move |_| {
+            let found = unsafe { raw::eallunsa_rnt_provider_at(s.as_ptr(), s.len(), end, at) };
+            fine(found.refusal).ok()?;
+            at = found.provider.end;
+            let authorities = authorities(s, found.provider);
+            Some((Provider::of(s, found.provider, authorities.len()), authorities))
+        })
+    }
+}
+
+fn authorities(s: &[u8], provider: raw::Provider) -> Vec<Authority<'_>> {
+    let (mut at, end) = (provider.authorities_at, provider.end);
+    let next = || {
+        if at >= end {
+            return None;
+        }
+        let found = unsafe { raw::eallunsa_rnt_authority_at(s.as_ptr(), s.len(), end, at) };
+        fine(found.refusal).ok()?;
+        at = found.next;
+        Some(Authority::of(s, found.authority))
+    };
+    std::iter::from_fn(next).collect()
+}
+
+impl<'a> Provider<'a> {
+    fn of(s: &'a [u8], provider: raw::Provider, number_of_authorities: usize) -> Provider<'a> {
+        Provider {
+            reserved_info_length: provider.reserved_info_length,
+            name: part(s, provider.name),
+            reserved_descriptors_length: provider.reserved_descriptors_length,
+            descriptors: part(s, provider.descriptors),
+            number_of_authorities,
+        }
+    }
+}
+
+impl<'a> Authority<'a> {
+    fn of(s: &'a [u8], authority: raw::Authority) -> Authority<'a> {
+        Authority {
+            name: part(s, authority.name),
+            reserved: authority.reserved,
+            crid_authority_policy: authority.crid_authority_policy,
+            descriptors: part(s, authority.descriptors),
+        }
+    }
 }
 
 fn part(s: &[u8], span: raw::Span) -> &[u8] {

@@ -207,6 +207,16 @@ fn resolution() {
         rnt::Authority { name: b"second.org", reserved: 3, crid_authority_policy: 1, descriptors: b"\x40\x02\x11\x22" };
     assert_eq!(rnt::authority(s, 0, 1), Ok(authority));
     assert_eq!(rnt::authority(s, 1, 0), Err(Refusal::NoSuchNumber(0, 0)));
+    // the walk lists what the calls by number answer
+    let walked: Vec<_> = section.providers().collect();
+    assert_eq!(walked.len(), section.number_of_providers);
+    for (k, (provider, authorities)) in walked.into_iter().enumerate() {
+        assert_eq!(rnt::provider(s, k), Ok(provider));
+        assert_eq!(authorities.len(), provider.number_of_authorities);
+        for (i, authority) in authorities.into_iter().enumerate() {
+            assert_eq!(rnt::authority(s, k, i), Ok(authority));
+        }
+    }
     assert_eq!(rct::read(s), Err(Refusal::NotRct(0x76, 0x79)));
 }
 

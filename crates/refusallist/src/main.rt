@@ -10,11 +10,13 @@ use console::print::say;
 use field::Field;
 use field::Listed;
 use libc::STDOUT_FILENO;
-use rows::FIELDS;
+use rows::FIELD_COUNT;
 use rows::FieldRow;
-use rows::NUMBERS;
+use rows::NUMBER_COUNT;
 use rows::Name;
 use rows::NumberRow;
+use rows::field_at;
+use rows::number_at;
 use table::Seen;
 use table::front;
 use table::next_row;
@@ -78,15 +80,13 @@ fn field_row(page: &[u8], at: usize, row: FieldRow) -> Seen {
 
 // The numbers' rows. The answer: the place behind them, and whether all are as in the code.
 fn number_rows(page: &[u8]) -> Seen {
-    let all = NUMBERS;
     let mut seen = Seen {
         at: 0,
         is_same: true,
     };
     let mut i: usize = 0;
-    while i < all.len() {
-        let row = all[i];
-        seen = number_row(page, next_row(page, seen.at), row);
+    while i < NUMBER_COUNT {
+        seen = number_row(page, next_row(page, seen.at), number_at(i));
         if !seen.is_same {
             return seen;
         }
@@ -96,12 +96,10 @@ fn number_rows(page: &[u8]) -> Seen {
 }
 
 fn field_rows(page: &[u8], from: Seen) -> Seen {
-    let all = FIELDS;
     let mut seen = from;
     let mut i: usize = 0;
-    while i < all.len() {
-        let row = all[i];
-        seen = field_row(page, next_row(page, seen.at), row);
+    while i < FIELD_COUNT {
+        seen = field_row(page, next_row(page, seen.at), field_at(i));
         if !seen.is_same {
             return seen;
         }
@@ -123,9 +121,9 @@ fn compare(page: &[u8]) {
         say(MORE);
         return;
     }
-    put_number(NUMBERS.len());
+    put_number(NUMBER_COUNT);
     say(NUMBERS_SAID);
-    put_number(FIELDS.len());
+    put_number(FIELD_COUNT);
     say(PLACES_SAID);
     end_line();
 }

@@ -15,7 +15,15 @@ pub struct FieldRow {
     pub name: Name,
 }
 
-pub const NUMBERS: [NumberRow; 37] = [
+// How many rows the two tables have.
+pub const NUMBER_COUNT: usize = 37;
+
+pub const FIELD_COUNT: usize = 24;
+
+// The name of no row.
+const NOTHING: Name = [b'.'; 24];
+
+const NUMBERS: [NumberRow; NUMBER_COUNT] = [
     NumberRow {
         number: Refusal::TOO_SHORT,
         name: *b"TOO_SHORT...............",
@@ -166,7 +174,7 @@ pub const NUMBERS: [NumberRow; 37] = [
     },
 ];
 
-pub const FIELDS: [FieldRow; 24] = [
+const FIELDS: [FieldRow; FIELD_COUNT] = [
     FieldRow {
         field: Field::HOW_RELATED,
         name: *b"HOW_RELATED.............",
@@ -264,3 +272,27 @@ pub const FIELDS: [FieldRow; 24] = [
         name: *b"LOOP_LENGTH_RESERVED....",
     },
 ];
+
+// A row by its number, apart from the loop that goes over them: there the whole table would be gone through at each step of its
+// proof. Behind the last one it is a row that no page has.
+pub fn number_at(i: usize) -> NumberRow {
+    if NUMBER_COUNT <= i {
+        return NumberRow {
+            number: 0,
+            name: NOTHING,
+        };
+    }
+    let all = NUMBERS;
+    all[i]
+}
+
+pub fn field_at(i: usize) -> FieldRow {
+    if FIELD_COUNT <= i {
+        return FieldRow {
+            field: Field { rank: 0, widest: 0 },
+            name: NOTHING,
+        };
+    }
+    let all = FIELDS;
+    all[i]
+}

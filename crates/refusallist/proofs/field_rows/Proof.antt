@@ -1,16 +1,15 @@
 -- `field_rows` is safe and ends: the measure is how many rows are left. Assumes nothing.
 use Prim.Native.Nat.{_-_}
 use borrow.Author.Needs.{needs}
-use lib.ListN.{length}
 use Rattle.refusallist.proofs.field_rows.Statement.{statement}
 use Rattle.refusallist.proofs.field_rows.Tie as tie
 
 abbrev Inv-loop : tie.InvT-loop
-Inv-loop page all seen₀ i₀ seen i = Unit {0}
+Inv-loop page seen₀ i₀ seen i = Unit {0}
 
 abbrev μ-loop : tie.MeasureT-loop
-μ-loop page all seen₀ i₀ seen i = 24 - i
+μ-loop page seen₀ i₀ seen i = 24 - i
 
 pub field-rows-spec : {M : Type 1} → statement M
 field-rows-spec =
-    tie.close (tie.spec Inv-loop μ-loop (search needs) (search needs) (search needs) (search needs) (search needs) (search needs) (search needs) (search needs) (search needs) (search needs))
+    tie.close (tie.spec Inv-loop μ-loop (search needs) (search needs) (search needs) (search needs) (search needs) (search needs) (search needs) (search needs) (search needs))

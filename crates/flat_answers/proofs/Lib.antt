@@ -2,4 +2,5 @@
 pub mod Back
 pub mod Names
 pub mod Numbers
+pub mod Told
 pub mod Unique

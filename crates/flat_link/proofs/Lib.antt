@@ -1,4 +1,5 @@
--- That a flat record and the library's stand for the same link, number by number, and that each contract leaves one outcome.
+-- That a flat record and the library's stand for the same link, number by number, what any number says, and that each contract leaves one outcome.
 pub mod Back
 pub mod Names
+pub mod Numbers
 pub mod Unique

@@ -14,7 +14,7 @@ use Rattle.link.specs.declared.LinkLocator.the-variants as place
 use Rattle.link.specs.declared.LinkFields.{LinkFields}
 use Rattle.link.specs.declared.LinkInfo.{LinkInfo}
 use Rattle.flat_link.specs.Locators.{serviceFlat, identifierFlat, windowsFlat, locatorFlat}
-use Rattle.flat_link.specs.Links.{fieldsFlat, linkFlat}
+use Rattle.flat_link.specs.Links.{noLocator, fieldsFlat, linkFlat}
 use Rattle.flat_link.specs.declared.locators.FlatService.{FlatService}
 use Rattle.flat_link.specs.declared.locators.FlatIdentifier.{FlatIdentifier}
 use Rattle.flat_link.specs.declared.locators.FlatWindows.{FlatWindows}
@@ -139,9 +139,10 @@ module _ (k : LinkFields) where
   unfolding fieldsFlat
   locator-present l e = (rw e refl, rw e refl)
 
-  pub locator-absent : k .«dvb_binary_locator» ≡ place.Absent → fieldsFlat k .«has_dvb_binary_locator» ≡ 0
+  pub locator-absent : k .«dvb_binary_locator» ≡ place.Absent
+      → (fieldsFlat k .«has_dvb_binary_locator» ≡ 0) × (fieldsFlat k .«dvb_binary_locator» ≡ locatorFlat noLocator)
   unfolding fieldsFlat
-  locator-absent e = rw e refl
+  locator-absent e = (rw e refl, rw e refl)
 
 -- the items are the library's own
 pub items-same : (k : LinkInfo) → linkFlat k .items ≡ k .items

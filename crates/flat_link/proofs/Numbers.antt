@@ -44,14 +44,14 @@ zeros =
       reserved = 0;
       «start_date» = 0;
       service =
-        record {
-          «inline_service» = 0;
-          «dvb_service_triplet_id» = 0;
-          «reserved_inline_service» = 0;
-          «transport_stream_id» = 0;
-          «original_network_id» = 0;
-          «service_id» = 0;
-        };
+          record {
+            «inline_service» = 0;
+            «dvb_service_triplet_id» = 0;
+            «reserved_inline_service» = 0;
+            «transport_stream_id» = 0;
+            «original_network_id» = 0;
+            «service_id» = 0;
+          };
       «start_time» = 0;
       duration = 0;
       identifier = record { «identifier_type» = 0; component = 0; id = 0 };

@@ -12,7 +12,7 @@ use borrow.Author.Tests.{le-leb, lt-leb}
 use Rattle.wire.specs.Choice.{pick}
 use Rattle.wire.specs.Lists.{part}
 use Rattle.wire.proofs.Lists.{length-part}
-use Rattle.wire.proofs.Writing.{sets-before, sets-from, sets-behind}
+use Rattle.byte_stores.proofs.Writing.{sets-before, sets-from, sets-behind}
 use Rattle.byte_moves.specs.Moves.{bothWithin, movedWithin}
 
 module _ (xs : List ℕ) (p q n : ℕ) where

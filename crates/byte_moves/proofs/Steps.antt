@@ -9,8 +9,8 @@ use lib.ListN.{length, take, drop, getD, set, length-drop, take-append-drop, dro
 use lib.Seq.{sets, set-comm, length-sets, take-all, drop-drop, take-add, length-take-le}
 use Rattle.wire.specs.Lists.{part}
 use Rattle.wire.proofs.Lists.{firsts-part, length-part, part-part, drop-take}
-use Rattle.wire.specs.Stores.{putAt}
-use Rattle.wire.proofs.Writing.{sets-append, sets-before, sets-behind, sets-take, copied}
+use Rattle.byte_stores.specs.Stores.{putAt}
+use Rattle.byte_stores.proofs.Writing.{sets-append, sets-before, sets-behind, sets-take, copied}
 use Rattle.byte_moves.specs.Stages.{movedUp, movedDown}
 
 -- ---- a run before a run

@@ -16,6 +16,6 @@ pub(crate) fn move_run(b: &mut [u8], from: usize, to: usize)
 {
     let end = from + RUN;
     let mut bytes = [0u8; RUN];
-    wire::put_at(&mut bytes, 0, &b[from..end]);
-    wire::put_at(b, to, &bytes);
+    byte_stores::put_at(&mut bytes, 0, &b[from..end]);
+    byte_stores::put_at(b, to, &bytes);
 }

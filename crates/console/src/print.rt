@@ -92,7 +92,7 @@ fn flush(out: i32, block: &Block, n: usize) -> usize {
 
 fn put_front(block: &mut [u8], n: usize, text: &[u8], length: usize) {
     if length <= text.len() {
-        wire::put_at(block, n, &text[0..length]);
+        byte_stores::put_at(block, n, &text[0..length]);
     }
 }
 

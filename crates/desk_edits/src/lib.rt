@@ -1,8 +1,8 @@
 // The calls of a script that change the lent buffer: make, append and replace. What is promised of this crate is that it
 // traps on nothing and ends; the gate runs it on stored input with rctdesk.
 use console::Short;
+use desk_links::link_words::read_link;
 use desk_records::edited_words::put_edited;
-use desk_records::link_words::read_link;
 use desk_records::section_words::read_section;
 use script::calls::NUMBER;
 use script::calls::call_of;

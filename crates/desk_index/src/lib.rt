@@ -1,16 +1,13 @@
 // The calls of a script that have an index beside the lent buffer: index, index=, ixappend and ixreplace. The index that one
 // of them leaves is the next one's. What is promised of this crate is that it traps on nothing and ends; the gate runs it on
 // stored input with rctdesk.
-mod index_words;
-mod set_words;
-
 use console::Short;
 use console::print::put_refusal;
 use console::print::say;
+use desk_index_words::index_words::put_index;
+use desk_index_words::index_words::read_index;
+use desk_links::link_words::read_link;
 use desk_records::edited_words::put_edited;
-use desk_records::link_words::read_link;
-use index_words::put_index;
-use index_words::read_index;
 use rct_index::IndexBuilt;
 use rct_index::IndexEdited;
 use rct_index::RctIndex;

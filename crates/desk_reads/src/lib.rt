@@ -3,18 +3,18 @@
 use console::Short;
 use console::print::put_refusal;
 use console::print::say;
-use desk_records::link_words::put_before_items;
-use desk_records::link_words::put_behind_items;
-use desk_records::link_words::put_item;
-use desk_records::link_words::put_link;
+use desk_links::link_words::put_before_items;
+use desk_links::link_words::put_behind_items;
+use desk_links::link_words::put_item;
+use desk_links::link_words::put_link;
 use desk_records::section_words::put_section;
 use frame::payload_end;
 use link::reading::ItemRead;
 use link::reading::ItemStep;
 use link::reading::LinkRead;
 use rct::RctHeader;
+use rct_entries::EntryRead;
 use rct_reader::RctSection;
-use rct_walker::entry::EntryRead;
 use script::calls::NUMBER;
 use script::calls::NUMBERS;
 use script::calls::OK;
@@ -22,8 +22,8 @@ use script::calls::call_of;
 use script::calls::is_understood;
 use script::read::read_short;
 use script::scan::Scan;
-use wire::spans::Span;
-use wire::spans::handed;
+use spans::Span;
+use spans::handed;
 use wire::verdict::Verdict;
 
 const CALLS: [Short; 4] = [
@@ -57,7 +57,7 @@ fn put_items(s: &[u8], count: usize, first: u32) {
 
 // The link at a place. The answer: the place behind its entry.
 fn put_link_at(payload: &[u8], at: u16) -> u16 {
-    let entry = rct_walker::entry::read_entry(payload, at);
+    let entry = rct_entries::read_entry(payload, at);
     match entry {
         EntryRead::Got {
             fields,

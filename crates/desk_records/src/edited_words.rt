@@ -4,7 +4,7 @@ use console::print::put_hex;
 use console::print::put_number;
 use console::print::put_refusal;
 use console::print::say;
-use rct_edit::Edited;
+use edit_answers::Edited;
 use wire::verdict::Verdict;
 
 const OK: Short = *b"ok _____________________";

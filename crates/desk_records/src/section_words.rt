@@ -1,12 +1,12 @@
 // A related content section up to its links.
 use crate::header_words::put_header;
 use crate::header_words::read_header;
-use crate::range_words::put_range;
-use crate::range_words::read_range;
 use console::Short;
 use console::print::put_number;
 use console::print::put_short;
 use console::print::say;
+use desk_links::range_words::put_range;
+use desk_links::range_words::read_range;
 use link::Range;
 use rct::RctHeader;
 use script::form::Part;

@@ -8,13 +8,12 @@ use console::print::say;
 use rnt::ResolutionProvider;
 use rnt_counts::count_authorities;
 use rnt_counts::places_of;
+use rnt_entries::AuthorityFound;
+use rnt_entries::ProviderFound;
 use rnt_providers::AuthorityRead;
 use rnt_providers::ProviderRead;
 use rnt_reader::RntRead;
 use rnt_reader::RntSection;
-use rnt_walker::entry;
-use rnt_walker::entry::AuthorityFound;
-use rnt_walker::entry::ProviderFound;
 use script::calls::NUMBER;
 use script::calls::NUMBERS;
 use script::calls::OK;
@@ -35,7 +34,7 @@ const CALLS: [Short; 4] = [
 
 // The authority at a place of a provider that ends at `end`. The answer: the place behind it.
 fn put_authority_at(s: &[u8], end: u16, at: u16) -> u16 {
-    let found = entry::read_authority(s, end, at);
+    let found = rnt_entries::read_authority(s, end, at);
     match found {
         AuthorityFound::Got { authority, next } => {
             put_authority(s, authority);
@@ -62,7 +61,7 @@ fn put_whole_provider(s: &[u8], provider: ResolutionProvider, count: usize) {
 
 // The provider at a place of a payload that ends at `end`. The answer: the place behind it.
 fn put_provider_at(s: &[u8], end: u16, at: u16) -> u16 {
-    let found = entry::read_provider(s, end, at);
+    let found = rnt_entries::read_provider(s, end, at);
     match found {
         ProviderFound::Got(provider) => {
             let count = count_authorities(s, provider.end, provider.authorities_at);

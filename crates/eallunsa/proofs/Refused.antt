@@ -13,8 +13,8 @@ use Rattle.link.specs.declared.reading.ItemRead.the-variants as item
 use Rattle.link.specs.declared.reading.ItemStep.the-variants as step
 use Rattle.rct.specs.Reading as rct
 use Rattle.rct.specs.declared.RctHeader.{RctHeader}
-use Rattle.rct_walker.specs.Entries.{entryRead}
-use Rattle.rct_walker.specs.declared.entry.EntryRead.the-variants as entry
+use Rattle.rct_entries.specs.Entries.{entryRead}
+use Rattle.rct_entries.specs.declared.EntryRead.the-variants as entry
 use Rattle.rct_reader.specs.Sections as related
 use Rattle.rct_links.specs.Links.{numberedLink, numberedItem}
 use Rattle.rct_edit.specs.Answers.{answer}
@@ -23,9 +23,9 @@ use Rattle.rct_index.specs.Building.{building}
 use Rattle.rct_index.specs.Editing.{appendingIndexed, replacingIndexed}
 use Rattle.rct_index.specs.declared.RctIndex.{RctIndex}
 use Rattle.rnt.specs.Reading as rnt
-use Rattle.rnt_walker.specs.Entries.{providerFrom, authorityFrom}
-use Rattle.rnt_walker.specs.declared.entry.ProviderFound.the-variants as place
-use Rattle.rnt_walker.specs.declared.entry.AuthorityFound.the-variants as behind
+use Rattle.rnt_entries.specs.Entries.{providerFrom, authorityFrom}
+use Rattle.rnt_entries.specs.declared.ProviderFound.the-variants as place
+use Rattle.rnt_entries.specs.declared.AuthorityFound.the-variants as behind
 use Rattle.rnt_reader.specs.Sections as resolution
 use Rattle.rnt_reader.specs.declared.RntRead.the-variants as read
 use Rattle.rnt_providers.specs.Providers.{numberedProvider, numberedAuthority}

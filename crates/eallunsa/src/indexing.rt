@@ -2,19 +2,19 @@
 ghost use mathlib.Core.Path.{_≡_};
 ghost use Rattle.wire.specs.Choice.{bit};
 ghost use Rattle.number_set.specs.Members.{members, isMember, trues};
-ghost use Rattle.rct_edit.specs.Answers.{editedBy};
+ghost use Rattle.edit_answers.specs.Answers.{editedBy};
 ghost use Rattle.rct_edit.specs.Calls.{appending, replacing, appendingPlaced, replacingPlaced};
 ghost use Rattle.rct_index.specs.Index.{placeIn};
 ghost use Rattle.rct_index.specs.Building.{building};
 ghost use Rattle.rct_index.specs.Editing.{appendingIndexed, replacingIndexed};
-ghost use Rattle.rct_index_editor.specs.Bringing.{anewBy};
+ghost use Rattle.rct_index_updater.specs.Bringing.{anewBy};
 ghost use Rattle.flat_link.specs.Links.{infoOf};
 ghost use Rattle.flat_answers.specs.Edits.{indexAnswer, indexEditAnswer};
+use edit_answers::Spliced;
 use flat_answers::edits::IndexAnswer;
 use flat_answers::edits::IndexEditAnswer;
 use flat_link::FlatLink;
 use number_set::NumberSet;
-use rct_edit::Spliced;
 use rct_index::IndexEdited;
 use rct_index::LinkMarks;
 use rct_index::RctIndex;
@@ -72,7 +72,7 @@ fn answered(index: RctIndex, number: usize, put: Spliced, marks: LinkMarks) -> I
 {
     IndexEditAnswer::of(IndexEdited {
         edited: put.edited(),
-        index: rct_index_editor::bring_up(index, number, put, marks),
+        index: rct_index_updater::bring_up(index, number, put, marks),
     })
 }
 
@@ -90,7 +90,7 @@ pub extern "C" fn eallunsa_rct_index_append(
     let flat = link.fields;
     let marks = LinkMarks::of(flat.fields());
     let put = put_last(b, text, link);
-    answered(index, rct_index_editor::last_of(put), put, marks)
+    answered(index, rct_index_updater::last_of(put), put, marks)
 }
 
 // Puts a link in place of link `number`, and brings the index up with it.

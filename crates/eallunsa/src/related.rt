@@ -2,7 +2,7 @@
 ghost use mathlib.Core.Path.{_≡_};
 ghost use Rattle.link.specs.Answers.{itemFrom};
 ghost use Rattle.rct.specs.Reading.{plain, checked};
-ghost use Rattle.rct_walker.specs.Entries.{entryRead};
+ghost use Rattle.rct_entries.specs.Entries.{entryRead};
 ghost use Rattle.rct_reader.specs.Sections.{sectionRead};
 ghost use Rattle.rct_links.specs.Links.{numberedLink, numberedItem};
 ghost use Rattle.flat_answers.specs.Sections.{rctAnswer};
@@ -50,7 +50,7 @@ pub extern "C" fn eallunsa_rct_item(s: &[u8], number: usize, item: usize) -> Ite
 pub extern "C" fn eallunsa_rct_entry(payload: &[u8], at: u16) -> EntryAnswer
     ensures { λ r. ⌜ r ≡ entryAnswer (entryRead (now (payload .entry)) at) ⌝ }
 {
-    EntryAnswer::of(rct_walker::entry::read_entry(payload, at))
+    EntryAnswer::of(rct_entries::read_entry(payload, at))
 }
 
 // The item at a place: from one place to the next it walks over the items of a link.

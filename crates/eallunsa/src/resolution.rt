@@ -1,7 +1,7 @@
 // Reading a resolution notification section.
 ghost use mathlib.Core.Path.{_≡_};
 ghost use Rattle.rnt.specs.Reading.{plain, checked};
-ghost use Rattle.rnt_walker.specs.Entries.{providerFrom, authorityFrom};
+ghost use Rattle.rnt_entries.specs.Entries.{providerFrom, authorityFrom};
 ghost use Rattle.rnt_reader.specs.Sections.{sectionRead};
 ghost use Rattle.rnt_providers.specs.Providers.{numberedProvider, numberedAuthority};
 ghost use Rattle.flat_answers.specs.Sections.{rntAnswer};
@@ -53,7 +53,7 @@ pub extern "C" fn eallunsa_rnt_authority(
 pub extern "C" fn eallunsa_rnt_provider_at(s: &[u8], end: u16, at: u16) -> ProviderFoundAnswer
     ensures { λ r. ⌜ r ≡ providerFoundAnswer (providerFrom (now (s .entry)) end at) ⌝ }
 {
-    ProviderFoundAnswer::of(rnt_walker::entry::read_provider(s, end, at))
+    ProviderFoundAnswer::of(rnt_entries::read_provider(s, end, at))
 }
 
 // The authority at a place of a section, of a provider that ends at `end`.
@@ -61,5 +61,5 @@ pub extern "C" fn eallunsa_rnt_provider_at(s: &[u8], end: u16, at: u16) -> Provi
 pub extern "C" fn eallunsa_rnt_authority_at(s: &[u8], end: u16, at: u16) -> AuthorityFoundAnswer
     ensures { λ r. ⌜ r ≡ authorityFoundAnswer (authorityFrom (now (s .entry)) end at) ⌝ }
 {
-    AuthorityFoundAnswer::of(rnt_walker::entry::read_authority(s, end, at))
+    AuthorityFoundAnswer::of(rnt_entries::read_authority(s, end, at))
 }

@@ -6,7 +6,7 @@ use mathlib.Core.List.{List, [], _∷_}
 use lib.Dec.{eqb, ltb, leb}
 use lib.ListN.{length, getD}
 use Rattle.wire.specs.Choice.{pick}
-use Rattle.wire.specs.Lengths.{longest, widestBeside}
+use Rattle.length_field.specs.Lengths.{longest, widestBeside}
 use Rattle.wire.specs.Refusals.{tooWide}
 use Rattle.wire.specs.Verdict.{refuse}
 use Rattle.field.specs.declared.Field.{Field}

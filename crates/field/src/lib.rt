@@ -2,7 +2,7 @@
 // for readers and writers of every layer. The list calls the rank the field's place; here a place is always one among bytes.
 ghost use mathlib.Core.Path.{_≡_};
 ghost use Rattle.field.specs.Fields.{ranked, checkField, low};
-use wire::lengths::LengthField;
+use length_field::LengthField;
 use wire::verdict::Refusal;
 use wire::verdict::Verdict;
 

@@ -10,14 +10,14 @@ use Rattle.link.specs.declared.LinkFields.{LinkFields}
 use Rattle.link.specs.declared.reading.LinkRead.{LinkRead}
 use Rattle.link.specs.declared.reading.ItemRead.the-variants as item
 use Rattle.link.specs.declared.reading.ItemStep.the-variants as step
-use Rattle.rct_walker.specs.declared.entry.EntryRead.the-variants as entry
+use Rattle.rct_entries.specs.declared.EntryRead.the-variants as entry
 use Rattle.rnt.specs.declared.CridAuthority.{CridAuthority}
 use Rattle.rnt.specs.declared.ResolutionProvider.{ResolutionProvider}
-use Rattle.rnt_walker.specs.declared.entry.ProviderFound.the-variants as provider-at
-use Rattle.rnt_walker.specs.declared.entry.AuthorityFound.the-variants as authority-at
+use Rattle.rnt_entries.specs.declared.ProviderFound.the-variants as provider-at
+use Rattle.rnt_entries.specs.declared.AuthorityFound.the-variants as authority-at
 use Rattle.rnt_providers.specs.declared.ProviderRead.the-variants as provider
 use Rattle.rnt_providers.specs.declared.AuthorityRead.the-variants as authority
-use Rattle.rct_edit.specs.declared.Edited.{Edited}
+use Rattle.edit_answers.specs.declared.Edited.{Edited}
 use Rattle.rct_index.specs.declared.IndexBuilt.{IndexBuilt}
 use Rattle.rct_index.specs.declared.IndexEdited.{IndexEdited}
 use Rattle.flat_link.specs.Links.{fieldsFlat, linkFlat}

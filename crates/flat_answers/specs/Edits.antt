@@ -1,6 +1,6 @@
 -- Edits and indexes as numbers.
 -- Assumes nothing.
-use Rattle.rct_edit.specs.declared.Edited.{Edited}
+use Rattle.edit_answers.specs.declared.Edited.{Edited}
 use Rattle.rct_index.specs.declared.IndexBuilt.{IndexBuilt}
 use Rattle.rct_index.specs.declared.IndexEdited.{IndexEdited}
 use Rattle.flat_answers.specs.Refusals.{refusalOf}

@@ -6,8 +6,8 @@ use Rattle.link.specs.declared.reading.ItemRead.{ItemRead}
 use Rattle.link.specs.declared.reading.ItemRead.the-variants as item
 use Rattle.link.specs.declared.reading.ItemStep.{ItemStep}
 use Rattle.link.specs.declared.reading.ItemStep.the-variants as step
-use Rattle.rct_walker.specs.declared.entry.EntryRead.{EntryRead}
-use Rattle.rct_walker.specs.declared.entry.EntryRead.the-variants as entry
+use Rattle.rct_entries.specs.declared.EntryRead.{EntryRead}
+use Rattle.rct_entries.specs.declared.EntryRead.the-variants as entry
 use Rattle.flat_link.specs.Links.{fieldsFlat, linkFlat}
 use Rattle.flat_answers.specs.Refusals.{noRefusal, refusalOf}
 use Rattle.flat_answers.specs.declared.links.LinkAnswer.{LinkAnswer}

@@ -1,12 +1,12 @@
 -- Providers and authorities as numbers.
 -- Assumes nothing.
-use Rattle.wire.specs.Spans.{span}
+use Rattle.spans.specs.Spans.{span}
 use Rattle.rnt.specs.declared.CridAuthority.{CridAuthority}
 use Rattle.rnt.specs.declared.ResolutionProvider.{ResolutionProvider}
-use Rattle.rnt_walker.specs.declared.entry.ProviderFound.{ProviderFound}
-use Rattle.rnt_walker.specs.declared.entry.ProviderFound.the-variants as place
-use Rattle.rnt_walker.specs.declared.entry.AuthorityFound.{AuthorityFound}
-use Rattle.rnt_walker.specs.declared.entry.AuthorityFound.the-variants as step
+use Rattle.rnt_entries.specs.declared.ProviderFound.{ProviderFound}
+use Rattle.rnt_entries.specs.declared.ProviderFound.the-variants as place
+use Rattle.rnt_entries.specs.declared.AuthorityFound.{AuthorityFound}
+use Rattle.rnt_entries.specs.declared.AuthorityFound.the-variants as step
 use Rattle.rnt_providers.specs.declared.ProviderRead.{ProviderRead}
 use Rattle.rnt_providers.specs.declared.ProviderRead.the-variants as provider
 use Rattle.rnt_providers.specs.declared.AuthorityRead.{AuthorityRead}

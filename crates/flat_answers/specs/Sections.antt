@@ -1,7 +1,7 @@
 -- Sections of both tables as numbers, and the header that numbers stand for.
 -- Assumes nothing.
 use Rattle.wire.specs.Choice.{bit}
-use Rattle.wire.specs.Spans.{span}
+use Rattle.spans.specs.Spans.{span}
 use Rattle.wire.specs.declared.verdict.Refusal.{Refusal}
 use Rattle.section_header.specs.Reading.{noHeader}
 use Rattle.section_header.specs.Syntax as syntax

@@ -2,7 +2,7 @@
 ghost use mathlib.Core.Path.{_≡_};
 ghost use Rattle.flat_answers.specs.Edits.{editAnswer, indexAnswer, indexEditAnswer};
 use crate::refusal_of;
-use rct_edit::Edited;
+use edit_answers::Edited;
 use rct_index::IndexBuilt;
 use rct_index::IndexEdited;
 use rct_index::RctIndex;

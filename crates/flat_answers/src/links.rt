@@ -10,7 +10,7 @@ use link::LinkItem;
 use link::reading::ItemRead;
 use link::reading::ItemStep;
 use link::reading::LinkRead;
-use rct_walker::entry::EntryRead;
+use rct_entries::EntryRead;
 use wire::verdict::Refusal;
 
 #[repr(C)]

@@ -5,11 +5,11 @@ ghost use Rattle.flat_answers.specs.Providers.{providerAnswer, providerF
 use crate::fine;
 use rnt::CridAuthority;
 use rnt::ResolutionProvider;
+use rnt_entries::AuthorityFound;
+use rnt_entries::ProviderFound;
 use rnt_providers::AuthorityRead;
 use rnt_providers::ProviderRead;
-use rnt_walker::entry::AuthorityFound;
-use rnt_walker::entry::ProviderFound;
-use wire::spans::Span;
+use spans::Span;
 use wire::verdict::Refusal;
 
 #[repr(C)]

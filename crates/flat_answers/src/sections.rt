@@ -12,7 +12,7 @@ use rnt::RntHeader;
 use rnt_reader::RntRead;
 use rnt_reader::RntSection;
 use section_header::SectionHeader;
-use wire::spans::Span;
+use spans::Span;
 use wire::verdict::Refusal;
 
 // Bytes 1 to 7 of a section, its length apart. A flag is 0 for no, anything else for yes.

@@ -7,12 +7,12 @@ use lib.ListN.{length, take}
 use borrow.Author.Tests.{le-leb, lt-leb, ne-eqb}
 use Rattle.wire.specs.Numbers.{bytes32}
 use Rattle.wire.specs.Refusals.{wrongCrc}
-use Rattle.wire.specs.Stores.{putAt}
+use Rattle.byte_stores.specs.Stores.{putAt}
 use Rattle.wire.specs.Verdict.{bad, refuse}
 use Rattle.wire.specs.declared.verdict.Verdict.the-variants.{Fine}
 use Rattle.wire.proofs.Verdicts.{pass-eqb, passed-eqb}
 use Rattle.wire.proofs.Words.{length-bytes32}
-use Rattle.wire.proofs.Writing.{copied}
+use Rattle.byte_stores.proofs.Writing.{copied}
 use Rattle.crc.specs.Crc.{crcOf}
 use Rattle.frame.specs.Syntax.{crcLength}
 use Rattle.frame.specs.Reading.{storedAt, computedAt, crcRow}

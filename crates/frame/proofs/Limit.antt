@@ -8,7 +8,7 @@ use mathlib.Core.Bool.{true, false, not}
 use mathlib.Core.List.{List, [], _∷_}
 use native.Mathlib.Omega.{arith}
 use lib.ListN.{length, getD}
-use Rattle.wire.specs.Lengths.{longest}
+use Rattle.length_field.specs.Lengths.{longest}
 use Rattle.wire.specs.Refusals.{sectionTooLong}
 use Rattle.wire.specs.Verdict.{bad}
 use Rattle.wire.specs.declared.verdict.Verdict.{Verdict}

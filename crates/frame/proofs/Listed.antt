@@ -9,7 +9,7 @@ use native.Mathlib.Omega.{arith}
 use lib.Dec.{ltb}
 use lib.ListN.{getD}
 use Rattle.wire.specs.Choice.{pick}
-use Rattle.wire.specs.Lengths.{longest}
+use Rattle.length_field.specs.Lengths.{longest}
 use Rattle.wire.specs.Refusals.{tooShort, wrongLength, wrongCrc, sectionTooLong, noSyntaxIndicator}
 use Rattle.wire.specs.Verdict.{bad, refuse}
 use Rattle.wire.specs.declared.verdict.Verdict.{Verdict}

@@ -10,11 +10,11 @@ use lib.Dec.{ltb, eqb}
 use borrow.Author.Tests.{lt-ltb, le-ltb, eq-eqb, ne-eqb}
 use lib.ListN.{length, getD}
 use Rattle.wire.specs.Lists.{Bytes}
-use Rattle.wire.specs.Lengths.{longest}
+use Rattle.length_field.specs.Lengths.{longest}
 use Rattle.wire.specs.Verdict.{bad, refuse, reached, _▷_}
 use Rattle.wire.specs.declared.verdict.Verdict.the-variants.{Fine}
 use Rattle.wire.specs.declared.verdict.Reached.the-variants as reach
-use Rattle.wire.proofs.Blocks.{length-short}
+use Rattle.length_field.proofs.Blocks.{length-short}
 use Rattle.wire.proofs.Verdicts.{then-fine, fine-then, fine-row, passed-ltb, passed-eqb, pass-ltb, pass-eqb, due-passed, due-pass, reached-at}
 use Rattle.wire.specs.Refusals.{tooShort, wrongLength, sectionTooLong, noSyntaxIndicator}
 use Rattle.section_header.specs.Reading.{syntaxIndicator, headerAt}

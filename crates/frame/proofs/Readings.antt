@@ -7,7 +7,7 @@ use Prim.Native.Nat.{ℕ, _≤_}
 use native.Mathlib.Omega.{arith}
 use mathlib.Core.Bool.{true, false}
 use mathlib.Core.List.{List, [], _∷_}
-use Rattle.wire.specs.Lengths.{longest}
+use Rattle.length_field.specs.Lengths.{longest}
 use Rattle.wire.specs.Refusals.{wrongCrc}
 use Rattle.wire.specs.Verdict.{bad}
 use Rattle.wire.specs.declared.verdict.Refusal.{Refusal}

@@ -6,7 +6,7 @@ use mathlib.Core.List.{List}
 use lib.Dec.{ltb, eqb}
 use lib.ListN.{length, getD, take}
 use Rattle.wire.specs.Numbers.{be32}
-use Rattle.wire.specs.Lengths.{longest, lengthOf, lengthAt}
+use Rattle.length_field.specs.Lengths.{longest, lengthOf, lengthAt}
 use Rattle.wire.specs.Refusals.{tooShort, wrongLength, wrongCrc, sectionTooLong, noSyntaxIndicator}
 use Rattle.wire.specs.Verdict.{refuse, _▷_}
 use Rattle.wire.specs.declared.verdict.Verdict.{Verdict}

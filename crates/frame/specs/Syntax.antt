@@ -6,7 +6,7 @@ use mathlib.Core.Path.{_≡_}
 use mathlib.Core.Bool.{true}
 use mathlib.Core.List.{List, _++_}
 use Rattle.wire.specs.Numbers.{bytes32}
-use Rattle.wire.specs.Lengths.{longest}
+use Rattle.length_field.specs.Lengths.{longest}
 use Rattle.crc.specs.Crc.{crcOf}
 use Rattle.section_header.specs.declared.SectionHeader.{SectionHeader}
 use Rattle.frame.specs.declared.Table.{Table}

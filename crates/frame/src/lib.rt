@@ -3,7 +3,7 @@ ghost use mathlib.Core.Path.{_≡_};
 ghost use Prim.Native.Nat.{_-_};
 ghost use Rattle.frame.specs.Syntax.{crcLength, least};
 ghost use Rattle.frame.specs.Reading.{totalIn, plainDemands, checkedDemands};
-use wire::lengths::LengthField;
+use length_field::LengthField;
 
 // A table: its id, its smallest section_length, and the number of the refusal of another id.
 pub struct Table {

@@ -50,6 +50,6 @@ pub fn seal(b: &mut [u8], end: usize) -> usize
     }
     let crc = crc_words::crc32(&b[..end]);
     let bytes = wire::to_be32(crc);
-    wire::put_at(b, end, &bytes);
+    byte_stores::put_at(b, end, &bytes);
     end + Table::CRC_LENGTH
 }

@@ -4,13 +4,13 @@ use console::print::end_line;
 use console::print::put_number;
 use console::print::put_refusal;
 use console::print::say;
+use length_field::LengthField;
 use libc::STDIN_FILENO;
 use libc::STDOUT_FILENO;
 use link::LangCode;
 use link::LinkInfo;
 use link::LinkItem;
 use link::reading::ItemRead;
-use wire::lengths::LengthField;
 
 // The most bytes that a link body has: the widest link_info_length.
 const MOST: usize = LengthField::LONGEST;

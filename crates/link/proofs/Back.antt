@@ -12,11 +12,11 @@ use lib.Seq.{take-at}
 use Rattle.wire.specs.Choice.{pick, bit}
 use Rattle.wire.specs.Lists.{part}
 use Rattle.field.specs.Fields.{low, iconId}
-use Rattle.wire.specs.Lengths.{Block, BlockFits, blockBytes, blockEnd, besideAt}
+use Rattle.length_field.specs.Lengths.{Block, BlockFits, blockBytes, blockEnd, besideAt}
 use Rattle.wire.specs.Verdict.{refuse, _▷_}
 use Rattle.wire.specs.declared.verdict.Verdict.the-variants.{Fine}
 use Rattle.wire.proofs.Lists.{at-drop-first, drop-past}
-use Rattle.wire.proofs.Blocks.{BlockRead, block-back, block-length, last-pass}
+use Rattle.length_field.proofs.Blocks.{BlockRead, block-back, block-length, last-pass}
 use Rattle.wire.proofs.Verdicts.{fine-then, pass-ltb}
 use Rattle.locator.specs.Syntax.{locatorBytes, locatorLength}
 use Rattle.locator.proofs.Back as locator

@@ -10,7 +10,7 @@ use lib.Dec.{ltb}
 use lib.ListN.{length, getD, drop, length-drop}
 use Rattle.wire.specs.Choice.{pick}
 use Rattle.wire.specs.Lists.{Bytes}
-use Rattle.wire.specs.Lengths.{blockEnd}
+use Rattle.length_field.specs.Lengths.{blockEnd}
 use borrow.Author.Tests.{le-leb}
 use Rattle.wire.specs.Refusals.{uriLengthCut, uriCut, noLocator, iconCut, descriptorsTooLong, linkSlack, noSuchNumber}
 use Rattle.wire.specs.Verdict.{refuse, _▷_}
@@ -18,7 +18,7 @@ use Rattle.wire.specs.declared.verdict.Refusal.{Refusal}
 use Rattle.wire.specs.declared.verdict.Verdict.{Verdict}
 use Rattle.wire.specs.declared.verdict.Verdict.the-variants.{Fine, Refused}
 use Rattle.wire.proofs.Lists.{bytes-at}
-use Rattle.wire.proofs.Blocks.{last-passed}
+use Rattle.length_field.proofs.Blocks.{last-passed}
 use Rattle.wire.proofs.Verdicts.{then-fine, fine-then, passed-ltb, pass-ltb, passed-leb, pass-leb, go-on, refused-then}
 use Rattle.locator.specs.Reading.{readLocator}
 use Rattle.locator.specs.declared.DvbBinaryLocator.{DvbBinaryLocator}

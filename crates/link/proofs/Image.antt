@@ -11,7 +11,7 @@ use lib.Seq.{take-at}
 use Rattle.wire.proofs.Lists.{part-part}
 use Rattle.wire.specs.Choice.{pick}
 use Rattle.wire.specs.Lists.{part}
-use Rattle.wire.specs.Lengths.{lengthAt}
+use Rattle.length_field.specs.Lengths.{lengthAt}
 use Rattle.wire.specs.declared.verdict.Verdict.the-variants.{Fine}
 use Rattle.wire.proofs.Verdicts.{then-fine}
 use Rattle.locator.specs.declared.reading.LocatorRead.{LocatorRead}

@@ -10,10 +10,10 @@ use mathlib.Core.Logic.{_↔_}
 use lib.ListN.{length}
 use Rattle.wire.specs.Choice.{bit}
 use Rattle.wire.specs.Lists.{Bytes}
-use Rattle.wire.specs.Lengths.{blockBytes, lengthBytes}
+use Rattle.length_field.specs.Lengths.{blockBytes, lengthBytes}
 use Rattle.wire.specs.declared.verdict.Verdict.the-variants.{Fine}
 use Rattle.wire.proofs.Lists.{bytes-append}
-use Rattle.wire.proofs.Blocks.{lengthBytes-bytes}
+use Rattle.length_field.proofs.Blocks.{lengthBytes-bytes}
 use Rattle.locator.specs.declared.DvbBinaryLocator.{DvbBinaryLocator}
 use Rattle.locator.proofs.Spelling.{spelt-bytes}
 use Rattle.link.specs.Syntax.{Link, LinkFits, UriFits, LocatorFits, fieldBytes, uriBytes, locatorPart, itemsBytes, tailOf, linkBody}

@@ -12,7 +12,8 @@ use Rattle.wire.specs.Verdict.{refuse, _▷_}
 use Rattle.wire.specs.declared.verdict.Refusal.{Refusal}
 use Rattle.wire.specs.declared.verdict.Verdict.{Verdict}
 use Rattle.wire.specs.declared.verdict.Verdict.the-variants.{Fine, Refused}
-use Rattle.wire.proofs.Among.{listed, Among, among-fine, among-row, among-then, among-more, last-listed}
+use Rattle.wire.proofs.Among.{listed, Among, among-fine, among-row, among-then, among-more}
+use Rattle.length_field.proofs.Listed.{last-listed}
 use Rattle.locator.specs.Reading.{readLocator}
 use Rattle.locator.specs.declared.reading.LocatorRead.{LocatorRead}
 use Rattle.locator.specs.declared.reading.LocatorRead.the-variants as read

@@ -13,7 +13,7 @@ use Rattle.wire.specs.Verdict.{isFine, refuse, _▷_}
 use Rattle.wire.specs.declared.verdict.Refusal.{Refusal}
 use Rattle.wire.specs.declared.verdict.Verdict.{Verdict}
 use Rattle.wire.specs.declared.verdict.Verdict.the-variants.{Fine, Refused}
-use Rattle.wire.specs.declared.spans.Span.{Span}
+use Rattle.spans.specs.declared.Span.{Span}
 use Rattle.link.specs.Syntax.{uriDue}
 use Rattle.link.specs.Reading.{typeAt, itemsPlace, itemCount, itemPlace, bodyVerdict}
 use Rattle.link.specs.Records.{noFields, noLink}

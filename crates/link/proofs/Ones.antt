@@ -5,7 +5,7 @@ use mathlib.Core.Path.{_≡_, refl}
 use native.Mathlib.Omega.{arith}
 use mathlib.Core.List.{List, [], _∷_, _++_}
 use lib.ListN.{length}
-use Rattle.wire.specs.Lengths.{blockBytes}
+use Rattle.length_field.specs.Lengths.{blockBytes}
 use Rattle.link.specs.Syntax.{Link, LinkFits, fieldBytes, uriBytes, locatorPart, itemsBytes, tailOf, linkBody, entryOf}
 use Rattle.link.specs.Records.{onesFields, linkOf}
 use Rattle.link.specs.declared.LinkInfo.{LinkInfo}

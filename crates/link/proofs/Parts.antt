@@ -9,10 +9,10 @@ use mathlib.Core.Bool.{Bool, true, false}
 use mathlib.Core.List.{List}
 use lib.ListN.{length, getD}
 use Rattle.wire.specs.Choice.{pick}
-use Rattle.wire.specs.Lengths.{lengthAt}
-use Rattle.wire.specs.Spans.{span}
+use Rattle.length_field.specs.Lengths.{lengthAt}
+use Rattle.spans.specs.Spans.{span}
 use Rattle.wire.specs.Verdict.{isFine}
-use Rattle.wire.specs.declared.spans.Span.{Span}
+use Rattle.spans.specs.declared.Span.{Span}
 use Rattle.wire.specs.declared.verdict.Refusal.{Refusal}
 use Rattle.wire.specs.declared.verdict.Verdict.{Verdict}
 use Rattle.wire.specs.declared.verdict.Verdict.the-variants.{Fine, Refused}

@@ -14,12 +14,12 @@ use borrow.Author.Tests.{eqb-true, eqb-false}
 use Rattle.wire.specs.Choice.{pick, bit}
 use Rattle.wire.specs.Lists.{Bytes, part}
 use Rattle.field.specs.Fields.{low, iconId}
-use Rattle.wire.specs.Lengths.{blockBytes, blockEnd, besideAt}
+use Rattle.length_field.specs.Lengths.{blockBytes, blockEnd, besideAt}
 use Rattle.wire.specs.Verdict.{refuse, _▷_}
 use Rattle.wire.specs.declared.verdict.Verdict.{Verdict}
 use Rattle.wire.specs.declared.verdict.Verdict.the-variants.{Fine, Refused}
 use Rattle.wire.proofs.Lists.{bytes-at, bytes-part, bytes-drop, length-part, firsts-part}
-use Rattle.wire.proofs.Blocks.{block-rebuild, block-fits, beside-narrow, last-passed}
+use Rattle.length_field.proofs.Blocks.{block-rebuild, block-fits, beside-narrow, last-passed}
 use Rattle.wire.proofs.Verdicts.{then-fine, passed-ltb}
 use Rattle.locator.specs.Reading.{readLocator}
 use Rattle.locator.proofs.Rebuild as locator

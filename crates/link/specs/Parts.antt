@@ -4,13 +4,13 @@ use Prim.Native.Nat.{ℕ, _+_}
 use mathlib.Core.List.{List}
 use lib.ListN.{getD}
 use Rattle.wire.specs.Choice.{pick}
-use Rattle.wire.specs.Lengths.{lengthAt}
+use Rattle.length_field.specs.Lengths.{lengthAt}
 use Rattle.wire.specs.Verdict.{isFine}
 use Rattle.link.specs.Syntax.{headLength, itemHead, uriDue}
 use Rattle.link.specs.Reading.{typeAt, uriStart, itemsPlace, itemPlace, textSize, tailPlace, bodyVerdict}
 use Rattle.link.specs.Answers.{itemRows}
-use Rattle.wire.specs.Spans.{span}
-use Rattle.wire.specs.declared.spans.Span.{Span}
+use Rattle.spans.specs.Spans.{span}
+use Rattle.spans.specs.declared.Span.{Span}
 
 unfoldable pub uriSpan : List ℕ → Span
 uriSpan xs = pick (isFine (bodyVerdict xs)) (pick (uriDue (typeAt xs)) (span uriStart (getD xs headLength 0)) (span 0 0)) (span 0 0)

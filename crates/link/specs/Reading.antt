@@ -11,7 +11,7 @@ use lib.ListN.{length, getD, drop}
 use Rattle.wire.specs.Choice.{pick}
 use Rattle.wire.specs.Lists.{part}
 use Rattle.field.specs.Fields.{low, howRelated, termId, linkType, linkTypeReserved, groupId, precedence, numberItems, numberItemsReserved, iconId}
-use Rattle.wire.specs.Lengths.{lengthAt, besideAt, lastVerdict}
+use Rattle.length_field.specs.Lengths.{lengthAt, besideAt, lastVerdict}
 use Rattle.wire.specs.Numbers.{be16}
 use Rattle.wire.specs.Refusals.{bodyTooShort, uriLengthCut, uriCut, noLocator, itemCountCut, itemCut, textCut, iconCut, descriptorsTooLong, linkSlack}
 use Rattle.wire.specs.Verdict.{refuse, _▷_}

@@ -8,7 +8,7 @@ use mathlib.Core.Option.{Option, none, some}
 use lib.ListN.{length, getD, take, replicate}
 use Rattle.wire.specs.Choice.{pick}
 use Rattle.wire.specs.Lists.{part}
-use Rattle.wire.specs.Lengths.{lengthAt}
+use Rattle.length_field.specs.Lengths.{lengthAt}
 use Rattle.field.specs.Fields.{linkTypeReserved, numberItems, numberItemsReserved, linkLengthReserved}
 use Rattle.locator.specs.declared.DvbBinaryLocator.{DvbBinaryLocator}
 use Rattle.locator.specs.declared.reading.LocatorRead.{LocatorRead}

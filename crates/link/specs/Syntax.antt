@@ -10,7 +10,7 @@ use lib.Dec.{eqb}
 use lib.ListN.{length}
 use Rattle.wire.specs.Choice.{pick, bit}
 use Rattle.wire.specs.Lists.{Bytes}
-use Rattle.wire.specs.Lengths.{Block, blockBytes}
+use Rattle.length_field.specs.Lengths.{Block, blockBytes}
 use Rattle.field.specs.Fields.{howRelated, termId, linkType, linkTypeReserved, groupId, precedence, uriLength, numberItems, numberItemsReserved, textLength, descriptorLength, iconId, linkLengthReserved}
 use Rattle.locator.specs.Syntax.{Fits, locatorBytes}
 use Rattle.locator.specs.declared.DvbBinaryLocator.{DvbBinaryLocator}

@@ -8,6 +8,7 @@ ghost use Rattle.locator.specs.Writing.{longestWritten};
 ghost use Rattle.link_draft.specs.Checks.{checkPresence, checkHead, linkChecked};
 ghost use Rattle.link_checker.specs.Stages.{noRanges, joined, rangeChecked, uriChecked, mostRange, locatorChecked, fieldsChecked, allChecked};
 use field::Field;
+use length_field::LengthField;
 use link::LinkFields;
 use link::LinkInfo;
 use link::LinkItem;
@@ -19,7 +20,6 @@ use link_draft::check_range;
 use link_draft::held;
 use link_draft::locator_here;
 use link_draft::uri_here;
-use wire::lengths::LengthField;
 use wire::verdict::Refusal;
 use wire::verdict::Verdict;
 use wire::verdict::first_of;
@@ -184,7 +184,7 @@ fn check_locator(locator: LinkLocator) -> LocatorChecked
         LinkLocator::Present(l) => LocatorChecked {
             narrow: locator_checker::check_fields(l),
             rule: locator_checker::check_windows(l),
-            length: l.length(),
+            length: locator_length::length_of(l),
         },
     }
 }

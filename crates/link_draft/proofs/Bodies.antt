@@ -9,10 +9,10 @@ use native.Mathlib.Omega.{arith}
 use lib.Dec.{leb}
 use lib.ListN.{length, length-append, length-map, length-take}
 use Rattle.wire.specs.Choice.{pick}
-use Rattle.wire.specs.Lengths.{lengthBytes, blockBytes}
-use Rattle.wire.specs.Spans.{span, spanOf, spanIn}
+use Rattle.length_field.specs.Lengths.{lengthBytes, blockBytes}
+use Rattle.spans.specs.Spans.{span, spanOf, spanIn}
 use Rattle.wire.specs.declared.verdict.Verdict.the-variants.{Fine}
-use Rattle.wire.proofs.SpanLaws.{span-inside}
+use Rattle.spans.proofs.SpanLaws.{span-inside}
 use Rattle.wire.proofs.Verdicts.{then-fine}
 use Rattle.field.specs.Fields.{howRelated, termId, linkType, linkTypeReserved, groupId, precedence, uriLength, numberItemsReserved, textLength, descriptorLength, iconId, low}
 use Rattle.field.specs.declared.Field.{Field}

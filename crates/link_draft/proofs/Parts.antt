@@ -10,8 +10,8 @@ use lib.ListN.{length, take, drop, length-append}
 use lib.Seq.{sets, length-sets}
 use borrow.Author.Tests.{le-leb, lt-leb, leb-true}
 use Rattle.wire.specs.Choice.{pick}
-use Rattle.wire.specs.Stores.{roomAt, putAt}
-use Rattle.wire.proofs.Writing.{sets-append, sets-before, sets-behind}
+use Rattle.byte_stores.specs.Stores.{roomAt, putAt}
+use Rattle.byte_stores.proofs.Writing.{sets-append, sets-before, sets-behind}
 use Rattle.link_draft.specs.Writing.{putAll}
 
 pub flatten-append : (ps qs : List (List ℕ)) → flatten (ps ++ qs) ≡ flatten ps ++ flatten qs

@@ -5,8 +5,8 @@ use mathlib.Core.Path.{_≡_, ap, _∙_}
 use mathlib.Core.List.{List}
 use native.Mathlib.Omega.{arith}
 use lib.ListN.{length, take, drop}
-use Rattle.wire.specs.Stores.{putAt, Wrote}
-use Rattle.wire.proofs.Writing.{copied}
+use Rattle.byte_stores.specs.Stores.{putAt, Wrote}
+use Rattle.byte_stores.proofs.Writing.{copied}
 use Rattle.link.specs.Records.{rangeOf}
 use Rattle.link.specs.declared.Range.{Range}
 use Rattle.link_draft.specs.Carried.{Within}

@@ -5,9 +5,9 @@ use mathlib.Core.Path.{_≡_, refl}
 use mathlib.Core.List.{List, [], _∷_, _++_, map}
 use native.Mathlib.Omega.{arith}
 use lib.ListN.{length, length-append}
-use Rattle.wire.specs.Lengths.{blockBytes}
+use Rattle.length_field.specs.Lengths.{blockBytes}
 use Rattle.wire.proofs.Lists.{length-part}
-use Rattle.wire.proofs.Blocks.{block-length}
+use Rattle.length_field.proofs.Blocks.{block-length}
 use Rattle.locator.proofs.Sizes.{bytes-length}
 use Rattle.link.specs.Syntax.{itemHead, fieldBytes, uriBytes, locatorPart, itemBytes, itemsBytes, tailOf, linkBody}
 use Rattle.link.specs.Records.{rangeOf, itemOf, uriOf, locatorOf, itemsOf, linkOf}

@@ -11,7 +11,7 @@ use Rattle.wire.specs.Lists.{Bytes, part}
 use Rattle.wire.specs.Refusals.{againstType}
 use Rattle.wire.specs.Verdict.{bad}
 use Rattle.wire.specs.declared.verdict.Verdict.the-variants.{Fine}
-use Rattle.wire.proofs.Writing.{sets-from}
+use Rattle.byte_stores.proofs.Writing.{sets-from}
 use Rattle.link.specs.Syntax.{linkBody}
 use Rattle.link.specs.Reading.{bodyVerdict, linkAt}
 use Rattle.link.specs.Records.{linkOf}

@@ -6,9 +6,9 @@ use Prim.Native.Nat.{ℕ, _+_, _*_}
 use mathlib.Core.List.{List, [], _∷_, _++_}
 use lib.ListN.{length}
 use Rattle.wire.specs.Choice.{bit}
-use Rattle.wire.specs.Lengths.{lengthBytes}
-use Rattle.wire.specs.Spans.{span, spanOf, spanIn}
-use Rattle.wire.specs.Stores.{putAt}
+use Rattle.length_field.specs.Lengths.{lengthBytes}
+use Rattle.spans.specs.Spans.{span, spanOf, spanIn}
+use Rattle.byte_stores.specs.Stores.{putAt}
 use Rattle.field.specs.Fields.{howRelated, termId, linkType, linkTypeReserved, groupId, precedence, uriLength, numberItemsReserved, textLength, descriptorLength, iconId, linkLengthReserved, low}
 use Rattle.locator.specs.Syntax.{locatorBytes}
 use Rattle.locator.specs.Writing as writing

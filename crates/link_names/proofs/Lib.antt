@@ -1,5 +1,4 @@
--- What types and schemes by number are, both ways, and that each public contract leaves one outcome.
+-- What types by number are, both ways, and that each public contract leaves one outcome.
 pub mod Among
 pub mod Types
-pub mod Schemes
 pub mod Unique

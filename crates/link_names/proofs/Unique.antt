@@ -8,12 +8,6 @@ use Rattle.link_names.proofs.link_type.LinkType.to_number.Kinds as type
 use Rattle.link_names.proofs.link_type.LinkType.to_number.Reads as type-to-number-reads
 use Rattle.link_names.proofs.link_type.LinkType.numbers.Kinds as type-numbers-kinds
 use Rattle.link_names.proofs.link_type.LinkType.numbers.Reads as type-numbers-reads
-use Rattle.link_names.proofs.how_related.HowRelated.of_number.Kinds as scheme-of-number-kinds
-use Rattle.link_names.proofs.how_related.HowRelated.of_number.Reads as scheme-of-number-reads
-use Rattle.link_names.proofs.how_related.HowRelated.to_number.Kinds as scheme-to-number-kinds
-use Rattle.link_names.proofs.how_related.HowRelated.to_number.Reads as scheme-to-number-reads
-use Rattle.link_names.proofs.how_related.HowRelated.numbers.Kinds as scheme-numbers-kinds
-use Rattle.link_names.proofs.how_related.HowRelated.numbers.Reads as scheme-numbers-reads
 
 pub type-of-number-one : One type-of-number-kinds.ps type-of-number-kinds.r type-of-number-reads.Asked type-of-number-reads.Learnt
 type-of-number-one = record { total = λ κs a. tt; one = λ κs a x y v w p q. (both p q, refl) }
@@ -23,12 +17,3 @@ type-to-number-one = record { total = λ κs a. tt; one = λ κs a x y v w p q. 
 
 pub type-numbers-one : One type-numbers-kinds.ps type-numbers-kinds.r type-numbers-reads.Asked type-numbers-reads.Learnt
 type-numbers-one = record { total = λ κs a. tt; one = λ κs a x y v w p q. (both p q, refl) }
-
-pub scheme-of-number-one : One scheme-of-number-kinds.ps scheme-of-number-kinds.r scheme-of-number-reads.Asked scheme-of-number-reads.Learnt
-scheme-of-number-one = record { total = λ κs a. tt; one = λ κs a x y v w p q. (both p q, refl) }
-
-pub scheme-to-number-one : One scheme-to-number-kinds.ps scheme-to-number-kinds.r scheme-to-number-reads.Asked scheme-to-number-reads.Learnt
-scheme-to-number-one = record { total = λ κs a. tt; one = λ κs a x y v w p q. (both p q, refl) }
-
-pub scheme-numbers-one : One scheme-numbers-kinds.ps scheme-numbers-kinds.r scheme-numbers-reads.Asked scheme-numbers-reads.Learnt
-scheme-numbers-one = record { total = λ κs a. tt; one = λ κs a x y v w p q. (both p q, refl) }

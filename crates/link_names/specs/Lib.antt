@@ -1,4 +1,3 @@
--- What the numbers of a link's type and of its how_related scheme stand for.
+-- What the numbers of a link's type stand for.
 pub mod Numbers
 pub mod Types
-pub mod Schemes

@@ -2,13 +2,13 @@
 // none. Why there is none, the calls of link_reader answer.
 ghost use mathlib.Core.Path.{_≡_};
 ghost use Rattle.wire.specs.Lists.{within};
-ghost use Rattle.wire.specs.Spans.{spanOf};
+ghost use Rattle.spans.specs.Spans.{spanOf};
 ghost use Rattle.link.specs.Parts.{uriSpan, textSpan, descriptorSpan};
+use length_field::LengthField;
 use link::LinkFields;
 use link::reading::ItemRead;
 use link_reader::BodyPlaces;
-use wire::lengths::LengthField;
-use wire::spans::Span;
+use spans::Span;
 
 // Where a part is that is not there: no bytes, at the body's start.
 const NOWHERE: Span = Span {
@@ -81,7 +81,7 @@ pub fn media_uri(s: &[u8]) -> &[u8]
     ensures { λ r. ⌜ now r ≡ spanOf (now (s .entry)) (uriSpan (now (s .entry))) ⌝ }
     ensures { λ r. ⌜ r .ptr ≡ within (s .entry .ptr) (uriSpan (now (s .entry)) .start) ⌝ }
 {
-    wire::spans::handed(s, uri_span(s))
+    spans::handed(s, uri_span(s))
 }
 
 // The promotional text of an item by number.
@@ -89,7 +89,7 @@ pub fn promotional_text(s: &[u8], number: usize) -> &[u8]
     ensures { λ r. ⌜ now r ≡ spanOf (now (s .entry)) (textSpan (now (s .entry)) number) ⌝ }
     ensures { λ r. ⌜ r .ptr ≡ within (s .entry .ptr) (textSpan (now (s .entry)) number .start) ⌝ }
 {
-    wire::spans::handed(s, text_span(s, number))
+    spans::handed(s, text_span(s, number))
 }
 
 // The link's descriptors.
@@ -97,5 +97,5 @@ pub fn descriptors(s: &[u8]) -> &[u8]
     ensures { λ r. ⌜ now r ≡ spanOf (now (s .entry)) (descriptorSpan (now (s .entry))) ⌝ }
     ensures { λ r. ⌜ r .ptr ≡ within (s .entry .ptr) (descriptorSpan (now (s .entry)) .start) ⌝ }
 {
-    wire::spans::handed(s, descriptor_span(s))
+    spans::handed(s, descriptor_span(s))
 }

@@ -10,9 +10,9 @@ use borrow.Author.Tests.{lt-ltb, le-ltb, not-true, not-false}
 use Rattle.field.specs.Fields.{low, numberItems}
 use Rattle.wire.specs.Choice.{pick}
 use Rattle.wire.specs.Lists.{Bytes}
-use Rattle.wire.specs.Lengths.{lengthField, lastRows, lastVerdict}
-use Rattle.wire.specs.declared.lengths.LengthField.{LengthField}
-use Rattle.wire.proofs.Blocks.{last-cut, last-left}
+use Rattle.length_field.specs.Lengths.{lengthField, lastRows, lastVerdict}
+use Rattle.length_field.specs.declared.LengthField.{LengthField}
+use Rattle.length_field.proofs.Blocks.{last-cut, last-left}
 use Rattle.wire.specs.Refusals.{bodyTooShort, uriLengthCut, uriCut, noLocator, itemCountCut, itemCut, textCut, iconCut, descriptorsTooLong, linkSlack}
 use Rattle.wire.specs.Verdict.{bad, refuse, reached, _▷_}
 use Rattle.wire.specs.declared.verdict.Refusal.{Refusal}

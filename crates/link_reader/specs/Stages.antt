@@ -7,7 +7,7 @@ use lib.Dec.{eqb, ltb}
 use lib.ListN.{length, drop}
 use Rattle.field.specs.Fields.{low, linkType, iconId}
 use Rattle.wire.specs.Choice.{pick}
-use Rattle.wire.specs.Lengths.{lengthAt, besideAt, lastVerdict}
+use Rattle.length_field.specs.Lengths.{lengthAt, besideAt, lastVerdict}
 use Rattle.wire.specs.Refusals.{bodyTooShort, iconCut, descriptorsTooLong, linkSlack}
 use Rattle.wire.specs.Verdict.{refuse, _▷_}
 use Rattle.wire.specs.declared.verdict.Verdict.{Verdict}

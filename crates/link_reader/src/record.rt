@@ -9,13 +9,13 @@ ghost use Rattle.link.specs.Records.{itemInfo, locatorInfo, fieldsAt};
 ghost use Rattle.link.specs.Answers.{lastPlace};
 ghost use Rattle.link_reader.specs.Stages.{headAt, Laid, uriTo, tailAt};
 use field::Field;
+use length_field::LengthField;
 use link::LangCode;
 use link::LinkFields;
 use link::LinkItem;
 use link::LinkLocator;
 use link::MediaUri;
 use link::Range;
-use wire::lengths::LengthField;
 
 // The item at `p`, whose head is there.
 pub(crate) fn item_at(s: &[u8], base: u16, p: usize) -> LinkItem

@@ -9,8 +9,8 @@ use native.Mathlib.Omega.{arith}
 use lib.ListN.{length, take, drop, getD, length-append}
 use borrow.Author.Tests.{leb-false}
 use Rattle.wire.specs.Choice.{bit}
-use Rattle.wire.specs.Lengths.{longest, widestBeside, lengthBytes}
-use Rattle.wire.specs.Stores.{roomAt, putAt}
+use Rattle.length_field.specs.Lengths.{longest, widestBeside, lengthBytes}
+use Rattle.byte_stores.specs.Stores.{roomAt, putAt}
 use Rattle.field.specs.Fields.{descriptorLength, iconId, low}
 use Rattle.locator.specs.Syntax.{locatorBytes}
 use Rattle.locator.specs.Writing.{narrowed, writtenLocator}

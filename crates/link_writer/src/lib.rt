@@ -8,6 +8,7 @@ ghost use Rattle.field.specs.Fields.{numberItems, numberItemsReserved, low};
 ghost use Rattle.link_draft.specs.Writing.{headBytes, headed, uriParts, locatorParts, frontParts, itemParts, tailParts, linkPut};
 ghost use Rattle.link_writer.specs.Stages.{Puts};
 use field::Field;
+use length_field::LengthField;
 use link::LinkFields;
 use link::LinkInfo;
 use link::LinkItem;
@@ -15,8 +16,7 @@ use link::LinkLocator;
 use link::MediaUri;
 use link::Range;
 use link_draft::held;
-use wire::lengths::LengthField;
-use wire::spans::Span;
+use spans::Span;
 
 // Writes the body of a record whose ranges are of `text` into `b` from `at` on. It is the syntax's bytes if the record
 // passed its checks and there is room for it.
@@ -106,7 +106,7 @@ fn put_headed(b: &mut [u8], at: usize, head: &[u8], text: &[u8], range: Range) -
 {
     let start = range.start as usize;
     let length = range.length as usize;
-    let part = wire::spans::handed(text, Span { start, length });
+    let part = spans::handed(text, Span { start, length });
     let range_at = put_next(b, at, head);
     put_next(b, range_at, part)
 }
@@ -115,7 +115,7 @@ fn put_headed(b: &mut [u8], at: usize, head: &[u8], text: &[u8], range: Range) -
 fn put_next(b: &mut [u8], at: usize, part: &[u8]) -> usize
     ensures { λ r. ⌜ Puts (now (b .entry)) at (now (part .entry) ∷ []) (now (b .exit)) r ⌝ }
 {
-    if wire::put_at(b, at, part) {
+    if byte_stores::put_at(b, at, part) {
         at + part.len()
     } else {
         b.len() + 1

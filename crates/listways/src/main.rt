@@ -10,8 +10,8 @@ use libc::STDOUT_FILENO;
 use listing::Program;
 use listing::options::Options;
 use listing::options::tell_word;
-use wire::spans::Span;
-use wire::spans::handed;
+use spans::Span;
+use spans::handed;
 
 // The most characters that a line has.
 const LONGEST: usize = 128;

@@ -10,8 +10,6 @@ use Rattle.locator.proofs.DvbBinaryLocator.with_reserved.Kinds as locat
 use Rattle.locator.proofs.DvbBinaryLocator.with_reserved.Reads as locator-reads
 use Rattle.locator.proofs.DvbBinaryLocator.new.Kinds as new-kinds
 use Rattle.locator.proofs.DvbBinaryLocator.new.Reads as new-reads
-use Rattle.locator.proofs.DvbBinaryLocator.length.Kinds as length-kinds
-use Rattle.locator.proofs.DvbBinaryLocator.length.Reads as length-reads
 
 pub service-with-reserved-one : One service-kinds.ps service-kinds.r service-reads.Asked service-reads.Learnt
 service-with-reserved-one = record { total = λ κs a. tt; one = λ κs a x y v w p q. (both p q, refl) }
@@ -24,6 +22,3 @@ locator-with-reserved-one = record { total = λ κs a. tt; one = λ κs a x y v 
 
 pub new-one : One new-kinds.ps new-kinds.r new-reads.Asked new-reads.Learnt
 new-one = record { total = λ κs a. tt; one = λ κs a x y v w p q. (both p q, refl) }
-
-pub length-one : One length-kinds.ps length-kinds.r length-reads.Asked length-reads.Learnt
-length-one = record { total = λ κs a. tt; one = λ κs a x y v w p q. (both p q, refl) }

@@ -8,7 +8,7 @@ use native.Mathlib.Omega.{arith}
 use native.Mathlib.Nat.{zero-add}
 use lib.ListN.{length, take, drop, length-replicate, replicate-append-replicate}
 use lib.Seq.{sets, sets-eq, drop-at, take-at}
-use Rattle.wire.specs.Stores.{Wrote}
+use Rattle.byte_stores.specs.Stores.{Wrote}
 use Rattle.wire.specs.declared.verdict.Verdict.the-variants.{Fine}
 use Rattle.field.specs.Fields.{startDate, locatorReserved, tripletId, inlineReserved, earlyStart, lateEnd}
 use Rattle.field.proofs.Checks.{low-whole}

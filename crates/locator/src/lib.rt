@@ -1,9 +1,6 @@
 // The DVB binary locator (ETSI TS 102 323, 7.3.2.3.3, Table 31): what it holds, how many bytes each of its fields takes,
 // and how one is made; in a module each, what reading and writing answer.
 ghost use mathlib.Core.Path.{_≡_};
-ghost use Prim.Native.Nat.{_+_, _≤_};
-ghost use Rattle.locator.specs.Syntax.{inlineLength, idLength, componentLength, windowLength};
-ghost use Rattle.locator.specs.Syntax.{serviceLength, identifierLength, windowsLength, locatorLength};
 ghost use Rattle.locator.specs.Syntax.{inlineService, fullService, locatorOf, newLocator};
 use field::Field;
 
@@ -86,40 +83,6 @@ impl DvbLocatorService {
             service_id,
         )
     }
-
-    fn length(self) -> usize
-        ensures { λ r. ⌜ (r ≡ serviceLength self) × (r ≤ inlineLength) ⌝ }
-    {
-        match self {
-            DvbLocatorService::Triplet { .. } => DvbBinaryLocator::TRIPLET,
-            DvbLocatorService::Full { .. } => DvbBinaryLocator::INLINE,
-        }
-    }
-}
-
-impl DvbLocatorIdentifier {
-    fn length(self) -> usize
-        ensures { λ r. ⌜ (r ≡ identifierLength self) × (r ≤ idLength + componentLength) ⌝ }
-    {
-        match self {
-            DvbLocatorIdentifier::None => 0,
-            DvbLocatorIdentifier::EventId { .. } => DvbBinaryLocator::ID,
-            DvbLocatorIdentifier::TvaIdEit { .. } => DvbBinaryLocator::ID,
-            DvbLocatorIdentifier::TvaIdPes { .. } => DvbBinaryLocator::ID
-                + DvbBinaryLocator::COMPONENT,
-        }
-    }
-}
-
-impl DvbLocatorWindows {
-    fn length(self) -> usize
-        ensures { λ r. ⌜ (r ≡ windowsLength self) × (r ≤ windowLength) ⌝ }
-    {
-        match self {
-            DvbLocatorWindows::Absent => 0,
-            DvbLocatorWindows::Present { .. } => DvbBinaryLocator::WINDOWS,
-        }
-    }
 }
 
 impl DvbBinaryLocator {
@@ -196,19 +159,5 @@ impl DvbBinaryLocator {
             identifier,
             windows,
         )
-    }
-
-    // How many bytes it has.
-    pub fn length(self) -> usize
-        ensures { λ r. ⌜ r ≡ locatorLength self ⌝ }
-    {
-        let service = self.service;
-        let identifier = self.identifier;
-        let windows = self.windows;
-        DvbBinaryLocator::HEAD
-            + service.length()
-            + DvbBinaryLocator::TIMES
-            + identifier.length()
-            + windows.length()
     }
 }

@@ -4,7 +4,7 @@ ghost use mathlib.Core.Path.{_≡_};
 ghost use Prim.Native.Nat.{_+_, _≤_};
 ghost use lib.ListN.{length};
 ghost use Rattle.wire.specs.Numbers.{bytes16};
-ghost use Rattle.wire.specs.Stores.{Wrote};
+ghost use Rattle.byte_stores.specs.Stores.{Wrote};
 ghost use Rattle.locator.specs.Syntax.{typeOf, isInline, lastBits, headOf, serviceBytes, identifierBytes, windowsBytes, locatorBytes, locatorLength};
 ghost use Rattle.locator.specs.Writing.{narrowedService, narrowedWindows, narrowed, writtenLocator};
 use field::Field;

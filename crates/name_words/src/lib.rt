@@ -1,8 +1,8 @@
 // The names of link types and of how_related schemes as the programs print them. What is promised of this crate is that it
 // traps on nothing and ends.
 use console::Short;
-use link_names::how_related::HowRelated;
 use link_names::link_type::LinkType;
+use scheme_names::HowRelated;
 
 pub fn type_name(t: LinkType) -> Short {
     match t {

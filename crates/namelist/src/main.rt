@@ -8,12 +8,12 @@ use console::print::say;
 use field::Field;
 use field::Listed;
 use link_names::Numbers;
-use link_names::how_related::HowRelated;
-use link_names::how_related::NamedScheme;
 use link_names::link_type::LinkType;
 use link_names::link_type::NamedType;
 use name_words::scheme_name;
 use name_words::type_name;
+use scheme_names::HowRelated;
+use scheme_names::NamedScheme;
 
 // One number more than a scheme can have.
 const END: u16 = Field::HOW_RELATED.widest as u16 + 2;

@@ -9,11 +9,11 @@ use lib.ListN.{length, take, length-append}
 use lib.Seq.{take-at}
 use Rattle.wire.specs.Lists.{Bytes}
 use Rattle.wire.specs.Numbers.{bytes32}
-use Rattle.wire.specs.Lengths.{longest, blockBytes}
+use Rattle.length_field.specs.Lengths.{longest, blockBytes}
 use Rattle.wire.specs.declared.verdict.Verdict.the-variants.{Fine}
 use Rattle.wire.proofs.Lists.{bytes-append}
 use Rattle.wire.proofs.Words.{length-bytes32, bytes32-bytes}
-use Rattle.wire.proofs.Blocks.{block-bytes}
+use Rattle.length_field.proofs.Blocks.{block-bytes}
 use Rattle.wire.proofs.Verdicts.{passed-leb, pass-leb}
 use Rattle.crc.specs.Crc.{crcOf}
 use Rattle.crc.proofs.Ending.{crc-lt}

@@ -9,7 +9,7 @@ use lib.ListN.{length, take, drop, getD}
 use Rattle.wire.specs.Choice.{bit}
 use Rattle.wire.specs.Lists.{Bytes, firsts}
 use Rattle.wire.specs.Numbers.{bytes16}
-use Rattle.wire.specs.Lengths.{longest, lengthBytes}
+use Rattle.length_field.specs.Lengths.{longest, lengthBytes}
 use Rattle.wire.proofs.Lists.{bytes-at, bytes-append, firsts-part}
 use Rattle.wire.proofs.Words.{word16-back, word16-high, word16-low}
 use Rattle.section_header.specs.Syntax.{headerBytes}

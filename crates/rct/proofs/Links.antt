@@ -7,16 +7,16 @@ use native.Mathlib.Omega.{arith}
 use mathlib.Core.List.{List, [], _∷_, _++_, append-assoc, append-nil}
 use lib.ListN.{length, take, drop, getD, length-append}
 use Rattle.wire.specs.Lists.{Bytes}
-use Rattle.wire.specs.Lengths.{lengthAt, besideAt, Block, BlockFits, blockBytes, blockAt, blockEnd}
+use Rattle.length_field.specs.Lengths.{lengthAt, besideAt, Block, BlockFits, blockBytes, blockAt, blockEnd}
 use Rattle.wire.specs.declared.verdict.Verdict.the-variants.{Fine}
 use Rattle.wire.proofs.Lists.{bytes-part, length-part}
-use Rattle.wire.proofs.Blocks.{length-short, beside-narrow, block-length, BlockRead, block-back, block-rebuild}
+use Rattle.length_field.proofs.Blocks.{length-short, beside-narrow, block-length, BlockRead, block-back, block-rebuild}
 use Rattle.wire.specs.Verdict.{_▷_}
 use Rattle.wire.proofs.Verdicts.{then-fine, fine-then, go-on, then-assoc}
 use Rattle.link.specs.Syntax.{Link, linkBody, entryOf}
 use Rattle.link.specs.Reading.{bodyVerdict, linkAt}
 use Rattle.link.proofs.Laws.{link-back, link-rebuild, link-beside, link-bytes}
-use Rattle.wire.proofs.Blocks.{block-passed, block-pass}
+use Rattle.length_field.proofs.Blocks.{block-passed, block-pass}
 use Rattle.rct.specs.Syntax.{linksBytes, EntryFits, LinksFit}
 use Rattle.rct.specs.Reading.{bodyIn, linkIn, after, linksAt, entryRows, entryVerdict, linksVerdict}
 

@@ -5,10 +5,11 @@ use Prim.Native.Nat.{ℕ, zero, suc}
 use mathlib.Core.Path.{_≡_, refl}
 use mathlib.Core.Logic.{_↔_}
 use mathlib.Core.List.{List, [], _∷_, _++_}
-use Rattle.wire.specs.Lengths.{blockEnd}
+use Rattle.length_field.specs.Lengths.{blockEnd}
 use Rattle.wire.specs.Refusals.{tooShort, notRct, wrongLength, entryCut, linkTooLong, loopCut, loopTooLong, sectionSlack, wrongCrc, noSuchNumber, sectionTooLong, noSyntaxIndicator}
 use Rattle.wire.specs.Verdict.{bad}
-use Rattle.wire.proofs.Among.{Among, among-fine, among-row, among-then, among-more, Never, among-never, block-listed, last-listed}
+use Rattle.wire.proofs.Among.{Among, among-fine, among-row, among-then, among-more, Never, among-never}
+use Rattle.length_field.proofs.Listed.{block-listed, last-listed}
 use Rattle.link.proofs.Listed.{bodyReading, body-listed}
 use Rattle.frame.specs.Reading.{payloadEnd}
 use Rattle.frame.specs.declared.Demands.{Demands}

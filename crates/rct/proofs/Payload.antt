@@ -11,12 +11,12 @@ use lib.ListN.{length, take, getD}
 use lib.Seq.{getD-take}
 use borrow.Author.Tests.{ltb-true, ltb-false}
 use Rattle.wire.specs.Lists.{part}
-use Rattle.wire.specs.Lengths.{lengthAt, besideAt, blockEnd, longRow, blockVerdict, lastVerdict}
+use Rattle.length_field.specs.Lengths.{lengthAt, besideAt, blockEnd, longRow, blockVerdict, lastVerdict}
 use Rattle.wire.specs.Refusals.{entryCut, linkTooLong, loopCut, loopTooLong}
 use Rattle.wire.specs.Verdict.{_▷_}
 use Rattle.wire.specs.declared.verdict.Verdict.{Verdict}
 use Rattle.wire.specs.declared.verdict.Verdict.the-variants.{Fine, Refused}
-use Rattle.wire.proofs.Blocks.{block-passed, block-cut, block-left}
+use Rattle.length_field.proofs.Blocks.{block-passed, block-cut, block-left}
 use Rattle.wire.proofs.Lists.{part-part}
 use Rattle.wire.proofs.Verdicts.{then-fine, go-on, refused-then}
 use Rattle.link.specs.Reading.{bodyVerdict, linkAt}

@@ -6,7 +6,7 @@ use Prim.Native.Nat.{ℕ, _+_, _/_, _%_}
 use mathlib.Core.Path.{_≡_, refl}
 use mathlib.Core.List.{List, [], _∷_}
 use lib.ListN.{take, replicate}
-use Rattle.wire.specs.Lengths.{blockRows, lastVerdict}
+use Rattle.length_field.specs.Lengths.{blockRows, lastVerdict}
 use Rattle.wire.specs.Verdict.{bad, refuse, _▷_}
 use Rattle.wire.specs.declared.verdict.Verdict.the-variants.{Fine}
 use Rattle.frame.specs.Reading.{checkedDemands, opened, readingBy, checkedBy}

@@ -5,7 +5,7 @@ use mathlib.Core.List.{List, [], _∷_}
 use lib.ListN.{getD}
 use Rattle.wire.specs.Lists.{part}
 use Rattle.wire.specs.Numbers.{be16}
-use Rattle.wire.specs.Lengths.{lengthAt, besideAt, blockAt, blockEnd, blockVerdict, lastVerdict}
+use Rattle.length_field.specs.Lengths.{lengthAt, besideAt, blockAt, blockEnd, blockVerdict, lastVerdict}
 use Rattle.wire.specs.Refusals.{entryCut, linkTooLong, loopCut, loopTooLong, sectionSlack}
 use Rattle.wire.specs.Verdict.{countedRow, _▷_}
 use Rattle.wire.specs.declared.verdict.Verdict.{Verdict}

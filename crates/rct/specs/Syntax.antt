@@ -5,7 +5,7 @@ use mathlib.Core.Bool.{Bool}
 use mathlib.Core.List.{List, [], _∷_, _++_}
 use lib.ListN.{length, take}
 use Rattle.wire.specs.Numbers.{bytes16}
-use Rattle.wire.specs.Lengths.{longest, Block, BlockFits, blockBytes}
+use Rattle.length_field.specs.Lengths.{longest, Block, BlockFits, blockBytes}
 use Rattle.wire.specs.Refusals.{notRct}
 use Rattle.link.specs.Syntax.{Link, LinkFits, linkBody, entryOf}
 use Rattle.section_header.specs.Syntax.{frontLength, headerBytes, HeaderFits, newHeader}

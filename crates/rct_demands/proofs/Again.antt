@@ -9,9 +9,9 @@ use lib.ListN.{length, getD, take, replicate}
 use lib.Seq.{take-at}
 use Rattle.wire.specs.Choice.{pick}
 use Rattle.wire.specs.Lists.{Bytes}
-use Rattle.wire.specs.Lengths.{lengthAt, besideAt, blockEnd}
+use Rattle.length_field.specs.Lengths.{lengthAt, besideAt, blockEnd}
 use Rattle.wire.specs.declared.verdict.Verdict.the-variants.{Fine}
-use Rattle.wire.proofs.Blocks.{length-short, beside-narrow}
+use Rattle.length_field.proofs.Blocks.{length-short, beside-narrow}
 use Rattle.wire.proofs.Lists.{length-part}
 use Rattle.wire.proofs.Verdicts.{then-fine, fine-then}
 use Rattle.field.specs.Fields.{loopLength, loopLengthReserved}
@@ -40,8 +40,9 @@ use Rattle.rct.proofs.Checked.{Holds}
 use Rattle.rct.proofs.Links.{entry-read}
 use Rattle.rct_walker.proofs.Walks.{after-next}
 use Rattle.rct_reader.specs.Sections.{sectionRead}
-use Rattle.rct_links.specs.Links.{bodyPlace, bodyOf, entryInfo, numberedLink}
-use Rattle.rct_links.proofs.Numbers.{rows-fine, LinkKnown, link-known}
+use Rattle.rct_bodies.specs.Bodies.{bodyPlace, bodyOf}
+use Rattle.rct_bodies.proofs.Bodies.{rows-fine, LinkKnown, link-known}
+use Rattle.rct_links.specs.Links.{entryInfo, numberedLink}
 use Rattle.rct_links.proofs.Images.{link-answer, link-image}
 use Rattle.rct_edit.specs.Edit.{bare, withNext, Outcome, made, appended}
 use Rattle.rct_edit.specs.Making.{checkLoop, checkMaking}

@@ -22,7 +22,8 @@ use Rattle.rct.specs.Reading.{countAt, linkPlace, sectionAt, plain, checked}
 use Rattle.rct.proofs.Checked.{count-is}
 use Rattle.rct_reader.specs.Sections.{sectionRead}
 use Rattle.rct_reader.specs.declared.RctSection.{RctSection}
-use Rattle.rct_links.specs.Links.{bodyOf, entryInfo, numberedLink}
+use Rattle.rct_bodies.specs.Bodies.{bodyOf}
+use Rattle.rct_links.specs.Links.{entryInfo, numberedLink}
 use Rattle.rct_links.proofs.Images.{link-answer, item-answer}
 use Rattle.rct_edit.specs.Edit.{written, Outcome}
 use Rattle.rct_edit.proofs.ReadsBack.{ReadsBack}

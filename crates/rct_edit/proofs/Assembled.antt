@@ -7,11 +7,11 @@ use mathlib.Core.List.{List, _++_, append-assoc}
 use lib.ListN.{length, take, drop, replicate, length-replicate}
 use lib.Seq.{sets, length-sets, sets-eq, take-add, take-at}
 use Rattle.wire.specs.Lists.{part}
-use Rattle.wire.specs.Lengths.{blockBytes}
+use Rattle.length_field.specs.Lengths.{blockBytes}
 use Rattle.wire.specs.Numbers.{bytes32}
 use Rattle.wire.proofs.Lists.{length-part}
 use Rattle.wire.proofs.Words.{length-bytes32}
-use Rattle.wire.proofs.Writing.{sets-before, sets-from, sets-take, sets-behind}
+use Rattle.byte_stores.proofs.Writing.{sets-before, sets-from, sets-take, sets-behind}
 use Rattle.crc.specs.Crc.{crcOf}
 use Rattle.link.specs.Syntax.{Link, entryOf}
 use Rattle.frame.proofs.Opening.{Opened}

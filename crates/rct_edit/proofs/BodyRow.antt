@@ -6,7 +6,7 @@ use Prim.Native.Nat.{ℕ, _≤_}
 use mathlib.Core.List.{List}
 use lib.Dec.{ltb}
 use lib.ListN.{length}
-use Rattle.wire.specs.Lengths.{longest}
+use Rattle.length_field.specs.Lengths.{longest}
 use Rattle.wire.specs.Verdict.{refuse, _▷_}
 use Rattle.wire.specs.declared.verdict.Verdict.{Verdict}
 use Rattle.wire.specs.declared.verdict.Verdict.the-variants.{Fine, Refused}

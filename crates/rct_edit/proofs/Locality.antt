@@ -8,7 +8,7 @@ use lib.ListN.{length, take, drop, getD, set, length-append, length-take, length
 use lib.Seq.{take-at, drop-at, take-take, set-split, split-at, take-set-lt, drop-set-lt, getD-take}
 use Rattle.wire.proofs.Lists.{drop-take}
 use Rattle.wire.specs.Lists.{Bytes, part}
-use Rattle.wire.specs.Lengths.{longest, lengthBytes, besideOf, besideAt, blockBytes, blockEnd}
+use Rattle.length_field.specs.Lengths.{longest, lengthBytes, besideOf, besideAt, blockBytes, blockEnd}
 use Rattle.wire.specs.declared.verdict.Verdict.the-variants.{Fine}
 use Rattle.link.specs.Syntax.{Link, entryOf}
 use Rattle.section_header.specs.Syntax.{headerBytes, firstBits}

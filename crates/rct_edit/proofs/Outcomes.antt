@@ -9,8 +9,9 @@ use Rattle.wire.specs.declared.verdict.Verdict.the-variants.{Fine, Refused}
 use Rattle.wire.proofs.Verdicts.{then-fine, fine-then, passed-ltb, pass-ltb}
 use Rattle.frame.specs.Syntax.{limit, uncounted}
 use Rattle.rct_edit.specs.Edit.{lengthRow, roomRows, Outcome, done}
-use Rattle.rct_edit.specs.Answers.{answer, refusedWith, acceptedWith}
-use Rattle.rct_edit.specs.declared.Edited.{Edited}
+use Rattle.rct_edit.specs.Answers.{answer}
+use Rattle.edit_answers.specs.Answers.{refusedWith, acceptedWith}
+use Rattle.edit_answers.specs.declared.Edited.{Edited}
 
 -- the answer e and the buffer ys are those of o
 abbrev pub Came : Outcome → Edited → List ℕ → Type 0

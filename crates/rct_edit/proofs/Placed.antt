@@ -9,11 +9,12 @@ use Rattle.wire.specs.declared.verdict.Verdict.{Verdict}
 use Rattle.wire.specs.declared.verdict.Verdict.the-variants.{Fine, Refused}
 use Rattle.link.specs.declared.LinkInfo.{LinkInfo}
 use Rattle.rct_edit.specs.Edit.{Outcome, done, replaced, appended}
-use Rattle.rct_edit.specs.Answers.{answer, refusedWith, splicedAs, splicedBy, editedBy}
+use Rattle.rct_edit.specs.Answers.{answer}
+use Rattle.edit_answers.specs.Answers.{refusedWith, splicedAs, splicedBy, editedBy}
 use Rattle.rct_edit.specs.Calls.{appending, replacing, appendingPlaced, replacingPlaced}
-use Rattle.rct_edit.specs.declared.Edited.{Edited}
-use Rattle.rct_edit.specs.declared.Spliced.{Spliced}
-use Rattle.rct_edit.specs.declared.Spliced.the-variants as spliced
+use Rattle.edit_answers.specs.declared.Edited.{Edited}
+use Rattle.edit_answers.specs.declared.Spliced.{Spliced}
+use Rattle.edit_answers.specs.declared.Spliced.the-variants as spliced
 use Rattle.rct_edit.proofs.Outcomes.{Came}
 
 -- ---- from the edit's answer e and the buffer ys

@@ -22,7 +22,7 @@ use Rattle.rct.proofs.Accepted.{place-is}
 use Rattle.rct.proofs.Checked.{holds-known, holds-total, checked-holds, count-is}
 use Rattle.rct_edit.specs.Edit.{withLink, withNext, written, Outcome, replaced, appended}
 use Rattle.rct_edit.specs.Calls.{appending, replacing, placed, appendingPlaced, replacingPlaced}
-use Rattle.rct_edit.specs.declared.Spliced.the-variants as spliced
+use Rattle.edit_answers.specs.declared.Spliced.the-variants as spliced
 use Rattle.rct_edit.proofs.Calls.{Stepped, replaced-verdict, appended-verdict, replace-checked, append-checked, replace-can, replaced-stepped, appended-stepped}
 use Rattle.rct_edit.proofs.Placed.{placed-done}
 use Rattle.rct_edit.proofs.Records.{length-with, length-next}

@@ -8,7 +8,7 @@ use mathlib.Core.List.{List, _++_, append-assoc}
 use lib.ListN.{length, drop, getD, replicate, length-append, length-replicate}
 use lib.Seq.{drop-at}
 use Rattle.wire.specs.Lists.{Bytes}
-use Rattle.wire.specs.Lengths.{Block}
+use Rattle.length_field.specs.Lengths.{Block}
 use Rattle.wire.specs.declared.verdict.Verdict.{Verdict}
 use Rattle.wire.specs.declared.verdict.Verdict.the-variants.{Fine}
 use Rattle.link.specs.Syntax.{Link, LinkFits}

@@ -8,7 +8,7 @@ use native.Mathlib.Omega.{arith}
 use mathlib.Core.List.{List, [], _∷_, _++_}
 use lib.ListN.{length, getD, set, length-append, length-set, List·getD-append}
 use lib.Seq.{set-comm, getD-set-same, getD-set-other}
-use Rattle.wire.specs.Lengths.{longest, blockBytes}
+use Rattle.length_field.specs.Lengths.{longest, blockBytes}
 use Rattle.link.specs.Syntax.{Link, LinkFits, linkBody, entryOf}
 use Rattle.frame.specs.Syntax.{limit}
 use Rattle.frame.specs.Reading.{checkedDemands}

@@ -1,30 +1,7 @@
--- What the calls answer.
+-- What the calls answer of an outcome.
 -- Assumes nothing.
-use Prim.Native.Nat.{ℕ}
-use Rattle.wire.specs.declared.verdict.Verdict.{Verdict}
-use Rattle.wire.specs.declared.verdict.Verdict.the-variants.{Fine, Refused}
 use Rattle.rct_edit.specs.Edit.{Outcome}
-use Rattle.rct_edit.specs.declared.Edited.{Edited}
-use Rattle.rct_edit.specs.declared.Spliced.{Spliced}
-use Rattle.rct_edit.specs.declared.Spliced.the-variants as spliced
+use Rattle.edit_answers.specs.declared.Edited.{Edited}
 
 abbrev pub answer : Outcome → Edited
 answer o = record { verdict = o .verdict; total = o .total }
-
-abbrev pub refusedWith : Verdict → Edited
-refusedWith v = record { verdict = v; total = 0 }
-
-abbrev pub acceptedWith : ℕ → Edited
-acceptedWith n = record { verdict = Fine; total = n }
-
--- the same for whoever keeps places of the section: the totals after and before, the number of links before, the entry's place
-unfoldable pub splicedAs : Verdict → ℕ → ℕ → ℕ → ℕ → Spliced
-splicedAs Fine total before count at = spliced.Done total before count at
-splicedAs (Refused r) total before count at = spliced.Refused r
-
-abbrev pub splicedBy : Edited → ℕ → ℕ → ℕ → Spliced
-splicedBy e before count at = splicedAs (e .verdict) (e .total) before count at
-
-unfoldable pub editedBy : Spliced → Edited
-editedBy (spliced.Done total before count at) = acceptedWith total
-editedBy (spliced.Refused r) = refusedWith (Refused r)

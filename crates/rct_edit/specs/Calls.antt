@@ -12,8 +12,9 @@ use Rattle.rct.specs.Syntax.{Section, fullLength, entryPlace}
 use Rattle.rct.specs.Reading.{sectionAt}
 use Rattle.rct_edit.specs.Edit.{bare, Outcome, made, appended, replaced}
 use Rattle.rct_edit.specs.Making.{checkMaking, loopOf}
-use Rattle.rct_edit.specs.Answers.{answer, splicedBy}
-use Rattle.rct_edit.specs.declared.Spliced.{Spliced}
+use Rattle.rct_edit.specs.Answers.{answer}
+use Rattle.edit_answers.specs.Answers.{splicedBy}
+use Rattle.edit_answers.specs.declared.Spliced.{Spliced}
 
 unfoldable pub making : List ℕ → RctHeader → ℕ → List ℕ → Range → Outcome
 making xs h beside t d = made xs (checkMaking h beside (length t) d) (bare h (loopOf beside t d))

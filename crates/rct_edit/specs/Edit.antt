@@ -4,7 +4,7 @@ use Prim.Native.Nat.{ℕ, _+_, _-_, max}
 use mathlib.Core.List.{List, [], _∷_, _++_}
 use lib.Dec.{ltb, leb}
 use lib.ListN.{length, set, drop, replicate}
-use Rattle.wire.specs.Lengths.{Block}
+use Rattle.length_field.specs.Lengths.{Block}
 use Rattle.wire.specs.Refusals.{sectionTooLong, noRoom, noMoreLinks}
 use Rattle.wire.specs.Verdict.{refuse, _▷_}
 use Rattle.wire.specs.declared.verdict.Verdict.{Verdict}

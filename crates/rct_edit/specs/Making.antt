@@ -3,7 +3,7 @@
 use Prim.Native.Nat.{ℕ, _+_, _≤_, _<_}
 use mathlib.Core.List.{List}
 use lib.ListN.{length}
-use Rattle.wire.specs.Lengths.{Block}
+use Rattle.length_field.specs.Lengths.{Block}
 use Rattle.field.specs.Fields.{loopLength, loopLengthReserved, checkField}
 use Rattle.section_header.specs.Checks.{checkHeader, narrowed}
 use Rattle.wire.specs.Verdict.{_▷_}

@@ -4,7 +4,7 @@ use Prim.Native.Nat.{ℕ}
 use mathlib.Core.List.{List}
 use lib.ListN.{set}
 use lib.Seq.{sets}
-use Rattle.wire.specs.Lengths.{lengthBytes, besideAt}
+use Rattle.length_field.specs.Lengths.{lengthBytes, besideAt}
 use Rattle.rct.specs.Syntax.{linkCountPlace}
 
 -- section_length anew, the four bits beside it kept, and the number of links

@@ -32,15 +32,15 @@ use Rattle.rct.specs.Reading.{numberRow, countAt, loopPlace, sectionAt, payload
 use Rattle.rct.proofs.Checked.{count-is, number-pass}
 use Rattle.rct_walker.proofs.Walks.{SpanOf}
 use Rattle.rct_edit.specs.Edit.{mostLinks, filler, withLink, withNext, written, countRow, roomRows, replaceVerdict, appendVerdict, Outcome, done, replaced, appended}
-use Rattle.rct_edit.specs.Answers.{splicedBy}
+use Rattle.edit_answers.specs.Answers.{splicedBy}
 use Rattle.rct_edit.specs.Rehead.{rehead}
 use Rattle.frame.specs.Ending.{sealedAt}
 use Rattle.rct_edit.proofs.Assembled.{Steps, new-end, assembled}
 use Rattle.rct_edit.proofs.Locality.{Splice, append-splice, replace-splice}
 use Rattle.rct_edit.proofs.Records.{length-with, length-next}
-use Rattle.rct_edit.specs.declared.Edited.{Edited}
-use Rattle.rct_edit.specs.declared.Spliced.{Spliced}
-use Rattle.rct_edit.specs.declared.Spliced.the-variants as spliced
+use Rattle.edit_answers.specs.declared.Edited.{Edited}
+use Rattle.edit_answers.specs.declared.Spliced.{Spliced}
+use Rattle.edit_answers.specs.declared.Spliced.the-variants as spliced
 use Rattle.rct_edit.proofs.Outcomes.{Came, done-stops, room-passed}
 use Rattle.rct_edit.proofs.Placed.{refused-placed, came-placed}
 use Rattle.rct_editor.specs.Splicing.{filledUp, entryBytes, Spot, lengthBetween, spliced, finished, betweenVerdict, betweenBytes, between}

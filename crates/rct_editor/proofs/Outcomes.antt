@@ -12,8 +12,8 @@ use Rattle.link.specs.declared.LinkInfo.{LinkInfo}
 use Rattle.link_draft.specs.Checks.{checkLink}
 use Rattle.link_draft.specs.Lengths.{linkLength}
 use Rattle.rct_edit.specs.Edit.{roomRows}
-use Rattle.rct_edit.specs.Answers.{refusedWith, acceptedWith}
-use Rattle.rct_edit.specs.declared.Edited.{Edited}
+use Rattle.edit_answers.specs.Answers.{refusedWith, acceptedWith}
+use Rattle.edit_answers.specs.declared.Edited.{Edited}
 use Rattle.rct_edit.proofs.Outcomes.{Came, done-stops, done-goes, room-passed}
 use Rattle.rct_editor.specs.Splicing.{lengthBetween, betweenVerdict, betweenBytes, between, Fitting}
 

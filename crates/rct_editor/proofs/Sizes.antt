@@ -9,7 +9,7 @@ use lib.Seq.{sets}
 use Rattle.wire.specs.Lists.{part}
 use Rattle.wire.specs.declared.verdict.Verdict.the-variants.{Fine, Refused}
 use Rattle.wire.specs.declared.verdict.Refusal.{Refusal}
-use Rattle.wire.proofs.Blocks.{block-length}
+use Rattle.length_field.proofs.Blocks.{block-length}
 use Rattle.link.specs.Syntax.{entryOf, linkBody}
 use Rattle.link.specs.Records.{linkOf}
 use Rattle.link.specs.declared.LinkInfo.{LinkInfo}

@@ -9,10 +9,11 @@ use lib.Seq.{sets, length-sets}
 use Rattle.frame.specs.Syntax.{crcLength, uncounted}
 use Rattle.frame.specs.Reading.{payloadEnd, totalOf}
 use Rattle.wire.specs.Lists.{part}
-use Rattle.wire.specs.Lengths.{longest, widestBeside, lengthBytes, besideAt, blockBytes}
-use Rattle.wire.specs.Stores.{putAt, Wrote}
+use Rattle.length_field.specs.Lengths.{longest, widestBeside, lengthBytes, besideAt, blockBytes}
+use Rattle.byte_stores.specs.Stores.{putAt, Wrote}
 use Rattle.wire.specs.declared.verdict.Verdict.the-variants.{Fine}
-use Rattle.wire.proofs.Writing.{sets-append, then, wrote-length, field-whole, field-put}
+use Rattle.byte_stores.proofs.Writing.{sets-append, then, wrote-length}
+use Rattle.length_field.proofs.Written.{field-whole, field-put}
 use Rattle.link.specs.Syntax.{linkBody}
 use Rattle.link.specs.Records.{linkOf}
 use Rattle.link.specs.declared.LinkInfo.{LinkInfo}

@@ -2,12 +2,12 @@
 ghost use mathlib.Core.Path.{_≡_};
 ghost use Rattle.wire.specs.Refusals.{noSuchNumber};
 ghost use Rattle.rct_edit.specs.Answers.{answer};
-ghost use Rattle.rct_edit.specs.declared.Spliced.the-variants as spliced;
+ghost use Rattle.edit_answers.specs.declared.Spliced.the-variants as spliced;
 ghost use Rattle.rct_edit.specs.Calls.{appending, replacing, appendingPlaced, replacingPlaced};
 use crate::splicing;
+use edit_answers::Edited;
+use edit_answers::Spliced;
 use link::LinkInfo;
-use rct_edit::Edited;
-use rct_edit::Spliced;
 use rct_walker::LinkSpan;
 use rct_walker::RctWalked;
 use wire::verdict::Refusal;

@@ -3,7 +3,7 @@ ghost use mathlib.Core.Path.{_≡_};
 ghost use Prim.Native.Nat.{_+_, _-_, _≤_, _<_};
 ghost use lib.ListN.{length};
 ghost use lib.Seq.{sets};
-ghost use Rattle.wire.specs.Lengths.{longest};
+ghost use Rattle.length_field.specs.Lengths.{longest};
 ghost use Rattle.wire.specs.declared.verdict.Verdict.the-variants.{Fine};
 ghost use Rattle.link_draft.specs.Checks.{checkLink};
 ghost use Rattle.link_draft.specs.Lengths.{linkLength};
@@ -13,13 +13,13 @@ ghost use Rattle.rct_edit.specs.Edit.{mostLinks};
 ghost use Rattle.rct_edit.specs.Rehead.{rehead};
 ghost use Rattle.rct_edit.specs.Answers.{answer};
 ghost use Rattle.rct_editor.specs.Splicing.{filledUp, entryBytes, Spot, between};
+use edit_answers::Edited;
 use field::Field;
 use frame::Table;
+use length_field::LengthField;
 use link::LinkInfo;
 use rct::RctHeader;
-use rct_edit::Edited;
 use rct_edit::room::check_room;
-use wire::lengths::LengthField;
 use wire::verdict::Verdict;
 
 // Puts the link in place of what lies between `from` and `to` of a section of `total` bytes, if its record passes its
@@ -67,7 +67,7 @@ fn put_entry(b: &mut [u8], at: usize, body: usize, text: &[u8], link: LinkInfo)
         length: body,
     };
     let bytes = field.to_bytes();
-    wire::put_at(b, at, &bytes);
+    byte_stores::put_at(b, at, &bytes);
     link_writer::put_link(b, at + LengthField::BYTES, text, link);
 }
 

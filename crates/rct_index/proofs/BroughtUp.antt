@@ -11,7 +11,7 @@ use lib.Dec.{eqb, ltb}
 use lib.ListN.{length, getD, take, set, length-append, length-set}
 use lib.Seq.{ext-getD, take-set-le, take-append-le}
 use borrow.Author.Tests.{eq-eqb, ne-eqb, lt-ltb, le-ltb, eqb-true, eqb-false, ltb-true, ltb-false}
-use Rattle.wire.specs.Lengths.{Block, blockBytes}
+use Rattle.length_field.specs.Lengths.{Block, blockBytes}
 use Rattle.descriptors.specs.Reading.{descriptorsOf}
 use Rattle.link.specs.Syntax.{Link, entryOf}
 use Rattle.rct.specs.Syntax.{headLength, Section, linksBytes, sectionLength, fullLength, entryPlace}

@@ -7,7 +7,7 @@ use mathlib.Core.List.{List, [], _∷_, _++_}
 use native.Mathlib.Omega.{arith}
 use lib.ListN.{length}
 use Rattle.wire.specs.Lists.{Bytes, part}
-use Rattle.wire.specs.Lengths.{lengthAt}
+use Rattle.length_field.specs.Lengths.{lengthAt}
 use Rattle.wire.proofs.Lists.{length-part}
 use Rattle.wire.specs.Refusals.{descriptorCut}
 use Rattle.wire.specs.Verdict.{bad}

@@ -7,7 +7,7 @@ use mathlib.Core.List.{List, [], _∷_, _++_}
 use native.Mathlib.Nat.{not-suc-le-zero, le-of-suc-le-suc}
 use native.Mathlib.Omega.{arith}
 use lib.ListN.{length, getD, take, set, replicate, length-append, length-replicate, List·getD-eq-default}
-use Rattle.wire.specs.Lengths.{blockBytes}
+use Rattle.length_field.specs.Lengths.{blockBytes}
 use Rattle.link.specs.Syntax.{Link, entryOf}
 use Rattle.rct.specs.Syntax.{headLength, Section, linksBytes, entryPlace}
 use Rattle.rct_edit.specs.Edit.{mostLinks}

@@ -4,7 +4,7 @@ use Prim.Native.Nat.{ℕ, _+_, _-_}
 use mathlib.Core.Bool.{Bool}
 use mathlib.Core.List.{List, [], _∷_, _++_, map}
 use lib.ListN.{length, getD, set, replicate}
-use Rattle.wire.specs.Lengths.{blockBytes}
+use Rattle.length_field.specs.Lengths.{blockBytes}
 use Rattle.number_set.specs.Members.{members, ofMembers}
 use Rattle.number_set.specs.declared.NumberSet.{NumberSet}
 use Rattle.descriptors.specs.Reading.{descriptorsOf}

@@ -2,11 +2,9 @@
 -- Assumes nothing.
 use Prim.Native.Nat.{ℕ, _<_}
 use mathlib.Core.Path.{_≡_, refl, sym, ap, _∙_}
-use mathlib.Core.Bool.{Bool, true, false, _&&_, false≢true}
 use mathlib.Core.List.{List}
 use native.Mathlib.Omega.{arith}
 use lib.ListN.{length}
-use borrow.Author.Tests.{lt-ltb, le-leb, ltb-true, leb-true}
 use Rattle.wire.specs.Lists.{Bytes}
 use Rattle.wire.specs.declared.verdict.Refusal.{Refusal}
 use Rattle.wire.specs.declared.verdict.Verdict.{Verdict}
@@ -20,11 +18,12 @@ use Rattle.rct.specs.Syntax.{linkCountPlace, Section, fullLength, entryPlace}
 use Rattle.rct.specs.Reading.{countAt, numberRow, sectionAt}
 use Rattle.rct.proofs.Checked.{checked-holds, count-is, number-passed}
 use Rattle.rct_edit.specs.Edit.{mostLinks, withLink, withNext, countRow, replaceVerdict, appendVerdict, editVerdict, Outcome, done, replaced, appended}
-use Rattle.rct_edit.specs.Answers.{answer, refusedWith, acceptedWith, editedBy}
+use Rattle.rct_edit.specs.Answers.{answer}
+use Rattle.edit_answers.specs.Answers.{refusedWith, acceptedWith, editedBy}
 use Rattle.rct_edit.specs.Calls.{appending, replacing, placed, appendingPlaced, replacingPlaced}
-use Rattle.rct_edit.specs.declared.Edited.{Edited}
-use Rattle.rct_edit.specs.declared.Spliced.{Spliced}
-use Rattle.rct_edit.specs.declared.Spliced.the-variants as spliced
+use Rattle.edit_answers.specs.declared.Edited.{Edited}
+use Rattle.edit_answers.specs.declared.Spliced.{Spliced}
+use Rattle.edit_answers.specs.declared.Spliced.the-variants as spliced
 use Rattle.rct_edit.proofs.Calls.{edit-passed, done-verdict}
 use Rattle.rct_edit.proofs.Placed.{placed-done, appending-edited, replacing-edited}
 use Rattle.rct_index.specs.Index.{marksIn}
@@ -33,8 +32,9 @@ use Rattle.rct_index.specs.declared.LinkMarks.{LinkMarks}
 use Rattle.rct_index.specs.declared.RctIndex.{RctIndex}
 use Rattle.rct_index.proofs.BroughtUp.{place-within}
 use Rattle.rct_index.proofs.Marks.{record-marks}
-use Rattle.rct_index_editor.specs.Bringing.{areNumbers, anewBy, lastOf}
-use Rattle.rct_index_editor.specs.Stages.{Numbers}
+use Rattle.rct_index_updater.specs.Bringing.{anewBy, lastOf}
+use Rattle.rct_index_updater.specs.Stages.{Numbers}
+use Rattle.rct_index_updater.proofs.Tested.{numbers-fit}
 
 -- ---- an answer of the edit's answer e and of an index
 
@@ -46,30 +46,6 @@ module _ (o : Outcome) (new old : RctIndex) (e : Edited) where
   stops : (r : Refusal) → answer o ≡ refusedWith (Refused r) → e ≡ refusedWith (Refused r) → record { edited = e; index = old } ≡ indexed o new old
   unfolding broughtUp
   stops r a is = λ i. record { edited = (is ∙ sym a) i; index = sym (ap (λ (v : Verdict). broughtUp v new old) (ap (λ (d : Edited). d .verdict) a)) i }
-
--- ---- the numbers of an edit, as they are tested
-
-and-both : (a b : Bool) → (a && b) ≡ true → (a ≡ true) × (b ≡ true)
-and-both true b e = (refl, e)
-and-both false b e = absurd (false≢true e)
-
-module _ (k n q old new : ℕ) where
-  numbers-fit : Numbers k n q old new → areNumbers k n q old new ≡ true
-  numbers-fit m = rw (lt-ltb _ _ (m .number), le-leb _ _ (m .count), lt-ltb _ _ (m .place), le-leb _ _ (m .before), le-leb _ _ (m .total)) refl
-
-  pub fit-numbers : areNumbers k n q old new ≡ true → Numbers k n q old new
-  fit-numbers e =
-      let a = and-both _ _ e in
-      let b = and-both _ _ (a .1) in
-      let c = and-both _ _ (b .1) in
-      let d = and-both _ _ (c .1) in
-      record {
-        number = ltb-true _ _ (a .0);
-        count = leb-true _ _ (b .0);
-        place = ltb-true _ _ (c .0);
-        before = leb-true _ _ (d .0);
-        total = leb-true _ _ (d .1);
-      }
 
 -- ---- the numbers that an accepted edit answers
 

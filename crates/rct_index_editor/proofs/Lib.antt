@@ -1,5 +1,3 @@
--- The laws of bringing up an index step by step, and that each public contract leaves one outcome.
-pub mod Steps
+-- What an edit answers tells what the index becomes, and that each public contract leaves one outcome.
 pub mod Edits
-pub mod Bounds
 pub mod Unique

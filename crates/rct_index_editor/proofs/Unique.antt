@@ -2,20 +2,10 @@
 -- Assumes nothing.
 use mathlib.Core.Path.{refl}
 use Rattle.wire.proofs.One.{One, both, pair}
-use Rattle.rct_index_editor.proofs.bring_up.Kinds as bring-up-kinds
-use Rattle.rct_index_editor.proofs.bring_up.Reads as bring-up-reads
-use Rattle.rct_index_editor.proofs.last_of.Kinds as last-of-kinds
-use Rattle.rct_index_editor.proofs.last_of.Reads as last-of-reads
 use Rattle.rct_index_editor.proofs.append.Kinds as append-kinds
 use Rattle.rct_index_editor.proofs.append.Reads as append-reads
 use Rattle.rct_index_editor.proofs.replace.Kinds as replace-kinds
 use Rattle.rct_index_editor.proofs.replace.Reads as replace-reads
-
-pub bring-up-one : One bring-up-kinds.ps bring-up-kinds.r bring-up-reads.Asked bring-up-reads.Learnt
-bring-up-one = record { total = λ κs a. tt; one = λ κs a x y v w p q. (both p q, refl) }
-
-pub last-of-one : One last-of-kinds.ps last-of-kinds.r last-of-reads.Asked last-of-reads.Learnt
-last-of-one = record { total = λ κs a. tt; one = λ κs a x y v w p q. (both p q, refl) }
 
 pub append-one : One append-kinds.ps append-kinds.r append-reads.Asked append-reads.Learnt
 append-one = record { total = λ κs a. tt; one = λ κs a x y v w p q. (both (p .0) (q .0), pair (both (p .1) (q .1)) refl) }

@@ -7,13 +7,13 @@ use native.Mathlib.Omega.{arith}
 use lib.ListN.{length, take, drop}
 use lib.Seq.{length-take-le}
 use Rattle.wire.specs.Lists.{Bytes, part}
-use Rattle.wire.specs.Lengths.{lengthAt}
+use Rattle.length_field.specs.Lengths.{lengthAt}
 use Rattle.wire.specs.Refusals.{loopCut, loopTooLong, sectionSlack}
 use Rattle.wire.specs.Verdict.{_▷_}
 use Rattle.wire.specs.declared.verdict.Refusal.{Refusal}
 use Rattle.wire.specs.declared.verdict.Verdict.{Verdict}
 use Rattle.wire.specs.declared.verdict.Verdict.the-variants.{Fine, Refused}
-use Rattle.wire.proofs.Blocks.{last-passed}
+use Rattle.length_field.proofs.Blocks.{last-passed}
 use Rattle.wire.proofs.Verdicts.{then-fine, fine-then, go-on, refused-then}
 use Rattle.descriptors.specs.Reading.{descriptorsOf, cutVerdict}
 use Rattle.frame.specs.Syntax.{longestPayload}
@@ -26,7 +26,7 @@ use Rattle.rct.proofs.Accepted.{place-is}
 use Rattle.rct.proofs.Checked.{count-is}
 use Rattle.wire.proofs.Lists.{drop-take}
 use Rattle.rct.proofs.Payload.{loop-same, links-same, links-alike}
-use Rattle.rct_walker.specs.Entries.{endOf}
+use Rattle.rct_walker.specs.Places.{endOf}
 use Rattle.rct_index.specs.Index.{setsOf, entryPlaces, filledPlaces, indexOf}
 use Rattle.rct_index.specs.Building.{descriptorPlace, loopRows, buildVerdict, built, building}
 use Rattle.rct_index.specs.declared.RctIndex.{RctIndex}

@@ -8,7 +8,7 @@ use native.Mathlib.Omega.{arith}
 use lib.ListN.{length, set, drop, length-drop}
 use lib.Seq.{take-all}
 use Rattle.wire.specs.Lists.{Bytes}
-use Rattle.wire.specs.Lengths.{besideAt, blockEnd}
+use Rattle.length_field.specs.Lengths.{besideAt, blockEnd}
 use Rattle.wire.specs.declared.verdict.Refusal.{Refusal}
 use Rattle.wire.specs.declared.verdict.Verdict.{Verdict}
 use Rattle.wire.specs.declared.verdict.Verdict.the-variants.{Fine, Refused}
@@ -24,9 +24,10 @@ use Rattle.rct.specs.Syntax.{headLength, linksBytes}
 use Rattle.rct.specs.Reading.{bodyIn, linkIn, after, linksAt, linksVerdict, loopVerdict}
 use Rattle.rct.proofs.Links.{place-of, links-sum, length-linksAt}
 use Rattle.rct_edit.specs.Edit.{mostLinks}
-use Rattle.rct_walker.specs.Entries.{endOf, entryRead}
-use Rattle.rct_walker.specs.declared.entry.EntryRead.the-variants as entry
-use Rattle.rct_walker.proofs.EntryLaws.{EntryHad, entry-had, entry-had-none}
+use Rattle.rct_walker.specs.Places.{endOf}
+use Rattle.rct_entries.specs.Entries.{entryRead}
+use Rattle.rct_entries.specs.declared.EntryRead.the-variants as entry
+use Rattle.rct_entries.proofs.EntryLaws.{EntryHad, entry-had, entry-had-none}
 use Rattle.rct_walker.proofs.Walks.{after-next, turn-on, turn-stop}
 use Rattle.rct_index.specs.Index.{linkMarks, marksIn, setsOf, withMarks, entryPlaces, filledPlaces, noIndex}
 use Rattle.rct_index.specs.Building.{built}

@@ -7,7 +7,7 @@ use mathlib.Core.List.{List}
 use lib.ListN.{length, take, getD, List·getD-map, List·getD-append}
 use lib.Seq.{getD-take, length-take-le}
 use Rattle.wire.specs.Lists.{Bytes, part}
-use Rattle.wire.specs.Lengths.{lengthAt, besideAt, blockEnd}
+use Rattle.length_field.specs.Lengths.{lengthAt, besideAt, blockEnd}
 use Rattle.wire.specs.declared.verdict.Verdict.the-variants.{Fine}
 use Rattle.wire.proofs.Lists.{length-part}
 use Rattle.wire.proofs.Verdicts.{fine-then, pass-leb}
@@ -27,13 +27,15 @@ use Rattle.rct.proofs.Accepted.{accepted, length-is}
 use Rattle.rct.proofs.Checked.{count-is}
 use Rattle.rct.proofs.Links.{entry-pass}
 use Rattle.rct.proofs.Payload.{length-same, beside-same, body-same}
-use Rattle.rct_walker.specs.Entries.{endOf, entryAnswer, entryRead}
-use Rattle.rct_walker.specs.declared.entry.EntryRead.the-variants as entry
+use Rattle.rct_walker.specs.Places.{endOf}
+use Rattle.rct_entries.specs.Entries.{entryAnswer, entryRead}
+use Rattle.rct_entries.specs.declared.EntryRead.the-variants as entry
 use Rattle.rct_walker.proofs.Walks.{after-next}
 use Rattle.rct_reader.specs.Sections.{sectionRead}
 use Rattle.rct_reader.specs.declared.RctSection.{RctSection}
-use Rattle.rct_links.specs.Links.{linkRows, bodyPlace, bodyOf, entryInfo, numberedLink, numberedItem}
-use Rattle.rct_links.proofs.Numbers.{rows-fine, LinkKnown, link-known}
+use Rattle.rct_bodies.specs.Bodies.{linkRows, bodyPlace, bodyOf}
+use Rattle.rct_bodies.proofs.Bodies.{rows-fine, LinkKnown, link-known}
+use Rattle.rct_links.specs.Links.{entryInfo, numberedLink, numberedItem}
 
 -- ---- the section
 

@@ -1,6 +1,5 @@
 -- The laws of links and items by number, and that each public contract leaves one outcome.
 pub mod Numbers
-pub mod Nothing
 pub mod Images
 pub mod Rows
 pub mod Listed

@@ -3,7 +3,7 @@
 use Prim.Native.Nat.{ℕ}
 use mathlib.Core.Path.{_≡_, refl}
 use mathlib.Core.Bool.{true}
-use mathlib.Core.List.{List, [], _∷_, _++_}
+use mathlib.Core.List.{List, [], _∷_}
 use Rattle.wire.specs.Refusals.{noSuchNumber}
 use Rattle.wire.specs.Verdict.{_▷_}
 use Rattle.wire.specs.declared.verdict.Refusal.{Refusal}
@@ -14,24 +14,9 @@ use Rattle.link.specs.Answers.{linkAnswer, itemRow, itemIn}
 use Rattle.link.specs.declared.LinkInfo.{LinkInfo}
 use Rattle.link.specs.declared.reading.ItemRead.the-variants as item
 use Rattle.link.proofs.Listed as body
-use Rattle.rct.proofs.Listed.{plainReading, plain-listed, number-listed}
-use Rattle.rct_links.specs.Links.{linkRows, bodyPlace, bodyOf, bodyAnswer, numberedBody, numberedLink, numberedItem}
-
-abbrev pub numberReading : List ℕ
-numberReading = plainReading ++ noSuchNumber ∷ []
-
-pub rows-listed : (xs : List ℕ) (k : ℕ) → Among numberReading (linkRows xs k)
-unfolding linkRows
-rows-listed xs k =
-    among-then numberReading _ _ (among-more plainReading numberReading _ refl (plain-listed xs)) (among-more (noSuchNumber ∷ []) numberReading _ refl (number-listed xs k))
-
-pub body-listed : (xs : List ℕ) (k : ℕ) → Among numberReading (numberedBody xs k .verdict)
-unfolding numberedBody bodyAnswer
-body-listed xs k = by (linkRows xs k) _ _ _ (rows-listed xs k)
-  where
-    by : (v : Verdict) (r p n : ℕ) → Among numberReading v → Among numberReading (bodyAnswer v r p n .verdict)
-    by Fine r p n a = a
-    by (Refused q) r p n a = a
+use Rattle.rct_bodies.specs.Bodies.{linkRows, bodyPlace, bodyOf}
+use Rattle.rct_bodies.proofs.Listed.{numberReading, rows-listed}
+use Rattle.rct_links.specs.Links.{numberedLink, numberedItem}
 
 pub link-listed : (xs : List ℕ) (k : ℕ) → Among numberReading (numberedLink xs k .verdict)
 unfolding numberedLink linkAnswer

@@ -20,8 +20,9 @@ use Rattle.link.specs.declared.reading.ItemRead.the-variants as item
 use Rattle.rct.specs.Reading.{countAt, plain, numberRow}
 use Rattle.rct.proofs.Checked.{number-passed}
 use Rattle.rct.proofs.Listed.{plainReading, plain-listed, number-listed}
-use Rattle.rct_links.specs.Links.{linkRows, bodyPlace, bodyOf, numberedLink, numberedItem}
-use Rattle.rct_links.proofs.Numbers.{rows-stop, rows-21, rows-fine}
+use Rattle.rct_bodies.specs.Bodies.{linkRows, bodyPlace, bodyOf}
+use Rattle.rct_bodies.proofs.Bodies.{rows-stop, rows-21, rows-fine}
+use Rattle.rct_links.specs.Links.{numberedLink, numberedItem}
 
 module _ (xs : List ℕ) (k : ℕ) where
   link-verdict : numberedLink xs k .verdict ≡ linkRows xs k

@@ -6,7 +6,7 @@ use mathlib.Core.Bool.{true, false}
 use native.Mathlib.Omega.{arith}
 use mathlib.Core.List.{List, [], _∷_}
 use lib.ListN.{length, replicate, take}
-use Rattle.wire.specs.Lengths.{blockRows, lastVerdict}
+use Rattle.length_field.specs.Lengths.{blockRows, lastVerdict}
 use Rattle.wire.specs.Verdict.{refuse, _▷_}
 use Rattle.wire.specs.declared.verdict.Verdict.the-variants.{Fine}
 use Rattle.locator.specs.Reading.{cut, readLocator}
@@ -28,7 +28,8 @@ use Rattle.link.specs.declared.LinkItem.{LinkItem}
 use Rattle.rct_reader.specs.Sections.{sectionRead}
 use Rattle.rct_reader.specs.declared.RctSection.{RctSection}
 use Rattle.rct_reader.proofs.Nothing.{refusedSection}
-use Rattle.rct_links.specs.Links.{linkRows, numberedLink}
+use Rattle.rct_bodies.specs.Bodies.{linkRows}
+use Rattle.rct_links.specs.Links.{numberedLink}
 
 -- the answer of the plain reading
 abbrev read : List ℕ → RctSection

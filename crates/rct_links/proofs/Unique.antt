@@ -2,15 +2,10 @@
 -- Assumes nothing.
 use mathlib.Core.Path.{refl}
 use Rattle.wire.proofs.One.{One, both}
-use Rattle.rct_links.proofs.numbered_body.Kinds as numbered-body-kinds
-use Rattle.rct_links.proofs.numbered_body.Reads as numbered-body-reads
 use Rattle.rct_links.proofs.read_link.Kinds as read-link-kinds
 use Rattle.rct_links.proofs.read_link.Reads as read-link-reads
 use Rattle.rct_links.proofs.read_item.Kinds as read-item-kinds
 use Rattle.rct_links.proofs.read_item.Reads as read-item-reads
-
-pub numbered-body-one : One numbered-body-kinds.ps numbered-body-kinds.r numbered-body-reads.Asked numbered-body-reads.Learnt
-numbered-body-one = record { total = λ κs a. tt; one = λ κs a x y v w p q. (both p q, refl) }
 
 pub read-link-one : One read-link-kinds.ps read-link-kinds.r read-link-reads.Asked read-link-reads.Learnt
 read-link-one = record { total = λ κs a. tt; one = λ κs a x y v w p q. (both p q, refl) }

@@ -19,10 +19,10 @@ use listing::lines::put_header;
 use listing::lines::put_refused;
 use listing::options::Options;
 use rct::RctHeader;
+use rct_entries::EntryRead;
 use rct_reader::RctSection;
-use rct_walker::entry::EntryRead;
-use wire::spans::Span;
-use wire::spans::handed;
+use spans::Span;
+use spans::handed;
 use wire::verdict::Verdict;
 
 const NAME: Short = *b"rctlist_________________";
@@ -61,7 +61,7 @@ fn put_section(payload: &[u8], r: RctSection, is_all: bool) {
 
 // The link at a place. The answer: the place behind its entry.
 fn put_link_at(payload: &[u8], number: usize, at: u16, is_all: bool) -> u16 {
-    let entry = rct_walker::entry::read_entry(payload, at);
+    let entry = rct_entries::read_entry(payload, at);
     match entry {
         EntryRead::Got {
             fields,

@@ -11,8 +11,6 @@ use link::LinkItem;
 use link::LinkLocator;
 use link::MediaUri;
 use link::reading::ItemStep;
-use link_names::how_related::HowRelated;
-use link_names::how_related::NamedScheme;
 use link_names::link_type::LinkType;
 use link_names::link_type::NamedType;
 use listing::lines::put_descriptor_count;
@@ -21,6 +19,8 @@ use listing::lines::put_field;
 use listing::lines::put_last;
 use name_words::scheme_name;
 use name_words::type_name;
+use scheme_names::HowRelated;
+use scheme_names::NamedScheme;
 
 pub(crate) fn put_link(number: usize, link: LinkFields) {
     let descriptors = link.descriptors;

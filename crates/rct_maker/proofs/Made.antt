@@ -7,12 +7,13 @@ use native.Mathlib.Nat.{zero-add}
 use native.Mathlib.Omega.{arith}
 use lib.ListN.{length, take, drop}
 use lib.Seq.{sets}
-use Rattle.wire.specs.Lengths.{longest, widestBeside, lengthBytes, blockBytes}
-use Rattle.wire.specs.Stores.{putAt, Wrote}
+use Rattle.length_field.specs.Lengths.{longest, widestBeside, lengthBytes, blockBytes}
+use Rattle.byte_stores.specs.Stores.{putAt, Wrote}
 use Rattle.wire.specs.declared.verdict.Refusal.{Refusal}
 use Rattle.wire.specs.declared.verdict.Verdict.the-variants.{Fine, Refused}
 use Rattle.wire.proofs.Verdicts.{go-on, refused-then}
-use Rattle.wire.proofs.Writing.{then, wrote-length, copied, field-put}
+use Rattle.byte_stores.proofs.Writing.{then, wrote-length, copied}
+use Rattle.length_field.proofs.Written.{field-put}
 use Rattle.link.specs.declared.Range.{Range}
 use Rattle.link_draft.proofs.Sizes.{range-length}
 use Rattle.link_draft.proofs.Putting.{range-copied}
@@ -26,10 +27,10 @@ use Rattle.rct.specs.Syntax.{headLength, shortest, Section, headBytes, payload,
 use Rattle.rct.proofs.Accepted.{length-payload, length-section}
 use Rattle.rct_edit.specs.Edit.{bare, roomRows, makeVerdict, fresh, made}
 use Rattle.rct_edit.proofs.Assembled.{assembled-fresh}
-use Rattle.rct_edit.specs.Answers.{refusedWith, acceptedWith}
+use Rattle.edit_answers.specs.Answers.{refusedWith, acceptedWith}
 use Rattle.rct_edit.specs.Making.{checkMaking, narrowedHeader, LoopNarrow, loopOf}
 use Rattle.rct_edit.specs.Calls.{making}
-use Rattle.rct_edit.specs.declared.Edited.{Edited}
+use Rattle.edit_answers.specs.declared.Edited.{Edited}
 use Rattle.rct_edit.proofs.Narrow.{header-written, loop-narrow}
 use Rattle.rct_edit.proofs.Outcomes.{Came, done-stops, done-goes, Roomy, room-passed}
 

@@ -2,19 +2,19 @@
 ghost use mathlib.Core.Path.{_≡_};
 ghost use Prim.Native.Nat.{_+_, _%_, _≤_};
 ghost use lib.ListN.{length};
-ghost use Rattle.wire.specs.Lengths.{longest, blockBytes};
-ghost use Rattle.wire.specs.Stores.{Wrote};
+ghost use Rattle.length_field.specs.Lengths.{longest, blockBytes};
+ghost use Rattle.byte_stores.specs.Stores.{Wrote};
 ghost use Rattle.rct.specs.Syntax.{headLength, headBytes};
 ghost use Rattle.rct_edit.specs.Answers.{answer};
 ghost use Rattle.rct_edit.specs.Making.{checkLoop, checkMaking, narrowedHeader, LoopNarrow, loopOf};
 ghost use Rattle.rct_edit.specs.Calls.{making};
+use edit_answers::Edited;
 use field::Field;
+use length_field::LengthField;
 use link::Range;
 use link_draft::check_range;
 use rct::RctHeader;
-use rct_edit::Edited;
 use rct_edit::room::check_room;
-use wire::lengths::LengthField;
 use wire::verdict::Verdict;
 use wire::verdict::first_of;
 
@@ -45,7 +45,7 @@ pub fn make(
         return Edited::refused(room);
     };
     let head = head_bytes(header, length);
-    wire::put_at(b, 0, &head);
+    byte_stores::put_at(b, 0, &head);
     let end = put_loop(b, reserved_descriptor_loop_length, text, descriptors);
     Edited::accepted(frame_ending::seal(b, end))
 }
@@ -65,7 +65,7 @@ fn check_making(header: RctHeader, reserved: u16, have: usize, range: Range) -> 
     ensures { λ r. ⌜ r ≡ checkMaking header reserved have range ⌝ }
 {
     let section = header.section;
-    let first = section.check();
+    let first = header_checker::check_header(section);
     let later = first_of(check_loop(reserved, range), check_range(have, range));
     first_of(first, later)
 }
@@ -75,7 +75,7 @@ fn head_bytes(header: RctHeader, section_length: usize) -> [u8; RctHeader::HEAD]
     ensures { λ r. ⌜ r ≡ headBytes (narrowedHeader header) («section_length» % (longest + 1)) 0 ⌝ }
 {
     let section = header.section;
-    let front = section.to_bytes(section_length);
+    let front = header_writer::header_bytes(section, section_length);
     let year = wire::to_be16(header.year_offset);
     [
         RctHeader::TABLE_ID,
@@ -106,7 +106,7 @@ fn put_loop(b: &mut [u8], reserved: u16, text: &[u8], range: Range) -> usize
     };
     let bytes = field.to_bytes();
     let at = RctHeader::HEAD + LengthField::BYTES;
-    wire::put_at(b, RctHeader::HEAD, &bytes);
-    wire::put_at(b, at, &text[start..end]);
+    byte_stores::put_at(b, RctHeader::HEAD, &bytes);
+    byte_stores::put_at(b, at, &text[start..end]);
     at + length
 }

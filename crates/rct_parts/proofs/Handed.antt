@@ -8,7 +8,7 @@ use mathlib.Core.Option.{none, some}
 use lib.ListN.{getD}
 use Rattle.wire.specs.Choice.{pick}
 use Rattle.wire.specs.Lists.{Bytes, part}
-use Rattle.wire.specs.Spans.{span, spanOf}
+use Rattle.spans.specs.Spans.{span, spanOf}
 use Rattle.wire.specs.declared.verdict.Verdict.the-variants.{Fine}
 use Rattle.wire.proofs.Verdicts.{fine-then}
 use Rattle.link.specs.Syntax.{headLength, Item, Link, uriDue}
@@ -16,9 +16,9 @@ use Rattle.link.specs.Reading.{typeAt, uriStart, itemsPlace, itemCount, bodyVer
 use Rattle.link.specs.Answers.{itemRow, itemRows}
 use Rattle.link.specs.Parts.{uriSpan, textSpan, descriptorSpan}
 use Rattle.rct.specs.Reading.{countAt, sectionAt, plain}
-use Rattle.rct_links.specs.Links.{bodyOf}
-use Rattle.rct_links.specs.declared.NumberedBody.{NumberedBody}
-use Rattle.rct_links.proofs.Numbers.{rows-fine, body-found, LinkKnown, link-known}
+use Rattle.rct_bodies.specs.Bodies.{bodyOf}
+use Rattle.rct_bodies.specs.declared.NumberedBody.{NumberedBody}
+use Rattle.rct_bodies.proofs.Bodies.{rows-fine, body-found, LinkKnown, link-known}
 use Rattle.rct_links.proofs.Images.{items-at, in-range}
 use Rattle.rct_parts.specs.Parts.{bodyPart}
 

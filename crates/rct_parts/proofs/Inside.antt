@@ -6,17 +6,17 @@ use native.Mathlib.Omega.{arith}
 use mathlib.Core.List.{List}
 use lib.ListN.{length}
 use Rattle.wire.specs.Lists.{Bytes, within}
-use Rattle.wire.specs.Lengths.{lengthAt, besideAt}
-use Rattle.wire.specs.Spans.{span, spanIn}
+use Rattle.length_field.specs.Lengths.{lengthAt, besideAt}
+use Rattle.spans.specs.Spans.{span, spanIn}
 use Rattle.wire.specs.declared.verdict.Verdict.{Verdict}
 use Rattle.wire.specs.declared.verdict.Verdict.the-variants.{Fine, Refused}
-use Rattle.wire.proofs.SpanLaws.{span-inside}
+use Rattle.spans.proofs.SpanLaws.{span-inside}
 use Rattle.frame.specs.Reading.{plainDemands}
 use Rattle.rct.specs.Reading.{linkPlace, plain}
 use Rattle.rct.proofs.Accepted.{accepted}
 use Rattle.rct_reader.specs.Sections.{sectionRead}
-use Rattle.rct_links.specs.Links.{linkRows, bodyPlace, bodyAnswer, numberedBody}
-use Rattle.rct_links.proofs.Numbers.{link-known}
+use Rattle.rct_bodies.specs.Bodies.{linkRows, bodyPlace, bodyAnswer, numberedBody}
+use Rattle.rct_bodies.proofs.Bodies.{link-known}
 use Rattle.rct_parts.specs.Parts.{bodySpan, loopSpan}
 
 -- the place of a part of a part

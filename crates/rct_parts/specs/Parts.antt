@@ -2,11 +2,11 @@
 -- Assumes nothing.
 use Prim.Native.Nat.{ℕ, _+_}
 use mathlib.Core.List.{List}
-use Rattle.wire.specs.Spans.{span, spanOf}
-use Rattle.wire.specs.declared.spans.Span.{Span}
+use Rattle.spans.specs.Spans.{span, spanOf}
+use Rattle.spans.specs.declared.Span.{Span}
 use Rattle.rct.specs.Reading.{plain}
 use Rattle.rct_reader.specs.Sections.{sectionRead}
-use Rattle.rct_links.specs.Links.{numberedBody}
+use Rattle.rct_bodies.specs.Bodies.{numberedBody}
 
 -- the body of link k, and nothing where link by number is refused
 abbrev pub bodySpan : List ℕ → ℕ → Span

@@ -3,18 +3,18 @@
 ghost use mathlib.Core.Path.{_≡_};
 ghost use Prim.Native.Nat.{_+_};
 ghost use Rattle.wire.specs.Lists.{within};
-ghost use Rattle.wire.specs.Spans.{spanOf};
+ghost use Rattle.spans.specs.Spans.{spanOf};
 ghost use Rattle.link.specs.Parts.{uriSpan, textSpan, descriptorSpan};
 ghost use Rattle.rct_parts.specs.Parts.{bodySpan, bodyPart, loopSpan};
-use wire::spans::Span;
-use wire::spans::handed;
+use spans::Span;
+use spans::handed;
 
 // The body of a link by number.
 pub fn link_body(s: &[u8], number: usize) -> &[u8]
     ensures { λ r. ⌜ now r ≡ bodyPart (now (s .entry)) number ⌝ }
     ensures { λ r. ⌜ r .ptr ≡ within (s .entry .ptr) (bodySpan (now (s .entry)) number .start) ⌝ }
 {
-    let found = rct_links::numbered_body(s, number);
+    let found = rct_bodies::numbered_body(s, number);
     let body = found.body;
     handed(s, body)
 }

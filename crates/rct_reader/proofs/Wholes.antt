@@ -7,7 +7,7 @@ use mathlib.Core.List.{List}
 use lib.ListN.{length}
 use Rattle.wire.specs.Lists.{Bytes}
 use Rattle.wire.specs.declared.verdict.Verdict.the-variants.{Fine}
-use Rattle.wire.proofs.Blocks.{length-short}
+use Rattle.length_field.proofs.Blocks.{length-short}
 use Rattle.frame.specs.Syntax.{longestPayload}
 use Rattle.frame.specs.Reading.{plainDemands}
 use Rattle.rct.specs.Syntax.{headLength}

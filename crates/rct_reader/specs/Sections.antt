@@ -2,7 +2,7 @@
 -- Assumes nothing.
 use Prim.Native.Nat.{ℕ, _+_}
 use mathlib.Core.List.{List}
-use Rattle.wire.specs.Lengths.{lengthAt, besideAt}
+use Rattle.length_field.specs.Lengths.{lengthAt, besideAt}
 use Rattle.wire.specs.declared.verdict.Refusal.{Refusal}
 use Rattle.wire.specs.declared.verdict.Verdict.{Verdict}
 use Rattle.wire.specs.declared.verdict.Verdict.the-variants.{Fine, Refused}

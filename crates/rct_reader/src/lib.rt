@@ -10,11 +10,11 @@ ghost use Rattle.rct.specs.Reading.{rctHeaderAt, countAt, loopPlace, plain, che
 ghost use Rattle.rct_walker.specs.Places.{loopFound};
 ghost use Rattle.rct_walker.specs.declared.RctLoop.the-variants.{At};
 ghost use Rattle.rct_reader.specs.Sections.{noSection, sectionRead};
+use length_field::LengthField;
 use link::Range;
 use rct::RctHeader;
 use rct_walker::RctLoop;
 use section_header::SectionHeader;
-use wire::lengths::LengthField;
 use wire::verdict::Refusal;
 use wire::verdict::Verdict;
 
@@ -32,7 +32,7 @@ fn header_at(s: &[u8]) -> RctHeader
     requires { ⌜ headLength ≤ length (now s) ⌝ }
     ensures { λ r. ⌜ r ≡ rctHeaderAt (now (s .entry)) ⌝ }
 {
-    let section = SectionHeader::of_bytes(s[1], s[3], s[4], s[5], s[6], s[7]);
+    let section = header_reader::read_header(s[1], s[3], s[4], s[5], s[6], s[7]);
     let year_offset = wire::be16(s[RctHeader::YEAR_AT], s[RctHeader::YEAR_AT + 1]);
     RctHeader {
         section,

@@ -2,6 +2,5 @@
 pub mod Walks
 pub mod Loops
 pub mod Spans
-pub mod EntryLaws
 pub mod Listed
 pub mod Unique

@@ -7,13 +7,13 @@ use native.Mathlib.Omega.{arith}
 use mathlib.Core.List.{List}
 use lib.ListN.{take, drop}
 use borrow.Author.Tests.{le-leb, lt-leb}
-use Rattle.wire.specs.Lengths.{lengthAt, blockEnd}
+use Rattle.length_field.specs.Lengths.{lengthAt, blockEnd}
 use Rattle.wire.specs.Verdict.{reached, _▷_}
 use Rattle.wire.specs.declared.verdict.Refusal.{Refusal}
 use Rattle.wire.specs.declared.verdict.Verdict.{Verdict}
 use Rattle.wire.specs.declared.verdict.Verdict.the-variants.{Fine, Refused}
 use Rattle.wire.specs.declared.verdict.Reached.the-variants as reach
-use Rattle.wire.proofs.Blocks.{block-passed}
+use Rattle.length_field.proofs.Blocks.{block-passed}
 use Rattle.wire.proofs.Verdicts.{then-fine, go-on, refused-then, then-assoc, reached-at}
 use Rattle.link.specs.Reading.{bodyVerdict}
 use Rattle.frame.specs.Reading.{payloadEnd}

@@ -1,4 +1,3 @@
 -- What a walk over the related content section answers; Stages is for the walk's own functions alone.
 pub mod Places
-pub mod Entries
 pub mod Stages

@@ -1,8 +1,8 @@
-// Walking over a related content section, by what a reading demands: the places of its links and of its loop, and an entry
-// by its place.
+// Walking over a related content section, by what a reading demands: the places of its links and of its loop, and over
+// either by its place.
 use wire::verdict::Refusal;
 
-pub mod entry;
+pub mod place;
 pub mod walk;
 
 // Where the entry of a link starts and ends. At the number of links it is the empty span where the next one would go.

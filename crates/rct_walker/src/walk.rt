@@ -2,7 +2,7 @@
 ghost use mathlib.Core.Path.{_≡_};
 ghost use Prim.Native.Nat.{_+_, _≤_, min};
 ghost use lib.ListN.{length};
-ghost use Rattle.wire.specs.Lengths.{blockEnd};
+ghost use Rattle.length_field.specs.Lengths.{blockEnd};
 ghost use Rattle.wire.specs.Verdict.{reached};
 ghost use Rattle.frame.specs.Syntax.{least};
 ghost use Rattle.frame.specs.Reading.{totalOf};
@@ -15,8 +15,8 @@ use crate::RctLoop;
 use crate::RctPlaces;
 use crate::RctWalked;
 use frame::Demands;
+use length_field::LengthField;
 use rct::RctHeader;
-use wire::lengths::LengthField;
 use wire::verdict::Reached;
 use wire::verdict::Refusal;
 use wire::verdict::Verdict;

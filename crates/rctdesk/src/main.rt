@@ -13,8 +13,8 @@ use line::says_nothing;
 use line::without_return;
 use rct_index::RctIndex;
 use script::calls::put_error;
-use wire::spans::Span;
-use wire::spans::handed;
+use spans::Span;
+use spans::handed;
 
 // The most characters that a line has, besides the two that may end it.
 const LONGEST: usize = 32768;

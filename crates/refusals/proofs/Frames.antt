@@ -6,7 +6,7 @@ use mathlib.Core.Path.{_≡_, refl}
 use mathlib.Core.Bool.{Bool, true, false}
 use mathlib.Core.List.{List, [], _∷_}
 use lib.Dec.{eqb}
-use Rattle.wire.specs.Lengths.{longRow, lastRows}
+use Rattle.length_field.specs.Lengths.{longRow, lastRows}
 use Rattle.wire.specs.Choice.{pick}
 use Rattle.wire.specs.Refusals.{tooShort, wrongLength, wrongCrc, sectionTooLong, noSyntaxIndicator}
 use Rattle.wire.specs.Verdict.{reached, _▷_}

@@ -9,32 +9,36 @@ use Rattle.wire.specs.declared.verdict.Reached.the-variants as reach
 use Rattle.wire.specs.declared.verdict.Refusal.{Refusal}
 use Rattle.wire.specs.declared.verdict.Verdict.{Verdict}
 use Rattle.wire.specs.declared.verdict.Verdict.the-variants.{Fine, Refused}
-use Rattle.wire.proofs.Among.{last-listed}
+use Rattle.length_field.specs.Lengths.{blockEnd}
+use Rattle.length_field.proofs.Listed.{last-listed}
 use Rattle.link.specs.declared.LinkInfo.{LinkInfo}
 use Rattle.link.specs.declared.Range.{Range}
 use Rattle.link.specs.declared.reading.ItemRead.the-variants as item
 use Rattle.frame.specs.Reading.{totalOf, opened}
 use Rattle.frame.specs.declared.Demands.{Demands}
 use Rattle.rct.specs.Syntax.{rct}
-use Rattle.rct.specs.Reading.{loopVerdict, reading, plain, checked}
+use Rattle.rct.specs.Reading.{entryRows, loopVerdict, reading, plain, checked}
 use Rattle.rct.specs.declared.RctHeader.{RctHeader}
 use Rattle.rct.proofs.Listed.{plainReading, demandedReading, checkedReading, entryReading}
-use Rattle.rct_walker.specs.Entries.{endOf, entryRead}
-use Rattle.rct_walker.specs.Places.{placesAt, walked, loopFound}
+use Rattle.rct_walker.specs.Places.{placesAt, walked, loopFound, endOf}
 use Rattle.rct_walker.specs.declared.RctLoop.the-variants as whole
 use Rattle.rct_walker.specs.declared.RctWalked.the-variants as walk
-use Rattle.rct_walker.specs.declared.entry.EntryRead.the-variants as entry
-use Rattle.rct_walker.proofs.Listed.{read-places-listed, read-loop-listed, entry-read-listed}
+use Rattle.rct_walker.proofs.Listed.{lengthReading, read-places-listed, read-loop-listed, past-entry-length-listed}
+use Rattle.rct_entries.specs.Entries.{entryRead}
+use Rattle.rct_entries.specs.declared.EntryRead.the-variants as entry
+use Rattle.rct_entries.proofs.Listed.{entry-read-listed}
 use Rattle.rct_readings.proofs.Listed.{plain-places-listed, checked-places-listed, plain-loop-listed, checked-loop-listed}
 use Rattle.rct_reader.specs.Sections.{sectionRead}
 use Rattle.rct_reader.proofs.Listed.{read-section-listed, check-section-listed}
-use Rattle.rct_links.specs.Links.{numberedBody, numberedLink, numberedItem}
-use Rattle.rct_links.proofs.Listed.{numberReading, body-listed, link-listed, item-listed}
+use Rattle.rct_bodies.specs.Bodies.{numberedBody}
+use Rattle.rct_bodies.proofs.Listed.{numberReading, body-listed}
+use Rattle.rct_links.specs.Links.{numberedLink, numberedItem}
+use Rattle.rct_links.proofs.Listed.{link-listed, item-listed}
 use Rattle.rct_edit.specs.Edit.{roomRows}
-use Rattle.rct_edit.specs.Answers.{editedBy}
+use Rattle.edit_answers.specs.Answers.{editedBy}
 use Rattle.rct_edit.specs.Calls.{making, appending, replacing, appendingPlaced, replacingPlaced}
-use Rattle.rct_edit.specs.declared.Edited.{Edited}
-use Rattle.rct_edit.specs.declared.Spliced.the-variants as spliced
+use Rattle.edit_answers.specs.declared.Edited.{Edited}
+use Rattle.edit_answers.specs.declared.Spliced.the-variants as spliced
 use Rattle.rct_edit.proofs.Placed.{appending-edited, replacing-edited}
 use Rattle.rct_edit.proofs.Listed.{roomNumbers, makingNumbers, editNumbers, room-listed, making-listed, appending-listed, replacing-listed}
 use Rattle.rct_index.specs.Building.{buildVerdict, built, building}
@@ -71,6 +75,9 @@ read-item-given xs k i r e = on-list numberReading r refl (item-listed xs k i r 
 
 pub read-entry-given : (xs : List ℕ) (p : ℕ) (r : Refusal) → entryRead xs p ≡ entry.Refused r → OnList r
 read-entry-given xs p r e = on-list entryReading r refl (entry-read-listed xs p r e)
+
+pub past-entry-length-given : (xs : List ℕ) (p : ℕ) (r : Refusal) → reached (entryRows xs (endOf xs) p) (blockEnd xs p) ≡ reach.Refused r → OnList r
+past-entry-length-given xs p r e = on-list lengthReading r refl (past-entry-length-listed xs p r e)
 
 pub check-loop-given : (xs : List ℕ) (p : ℕ) → Given (loopVerdict xs (endOf xs) p)
 check-loop-given xs p = last-listed fixedList loopCut loopTooLong refl refl sectionSlack refl xs (endOf xs) p

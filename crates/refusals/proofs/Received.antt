@@ -9,7 +9,7 @@ use mathlib.Core.Option.{none}
 use native.Mathlib.Omega.{arith}
 use lib.ListN.{length, drop, replicate}
 use Rattle.wire.specs.Lists.{Bytes}
-use Rattle.wire.specs.Lengths.{lengthBytes, blockBytes, blockRows, lastVerdict}
+use Rattle.length_field.specs.Lengths.{lengthBytes, blockBytes, blockRows, lastVerdict}
 use Rattle.wire.specs.Verdict.{bad, refuse, _▷_}
 use Rattle.wire.proofs.Lists.{bytes-append}
 use Rattle.field.specs.Fields.{checkField}
@@ -40,7 +40,8 @@ use Rattle.rct.specs.declared.RctHeader.{RctHeader}
 use Rattle.rct.proofs.Rows as rct-rows
 use Rattle.rct.proofs.Checked.{sealed-holds, holds-known, sealed-bytes}
 use Rattle.rct_reader.specs.Sections as rct-section
-use Rattle.rct_links.specs.Links.{linkRows, numberedLink}
+use Rattle.rct_bodies.specs.Bodies.{linkRows}
+use Rattle.rct_links.specs.Links.{numberedLink}
 use Rattle.rct_edit.specs.Edit.{roomRows, makeVerdict, made, done}
 use Rattle.rct_edit.specs.Making.{checkLoop, checkMaking}
 use Rattle.rct_edit.specs.Calls.{making, appending}

@@ -10,14 +10,19 @@ use Rattle.wire.specs.declared.verdict.Refusal.{Refusal}
 use Rattle.frame.specs.Reading.{totalOf, opened}
 use Rattle.frame.specs.declared.Demands.{Demands}
 use Rattle.rnt.specs.Syntax.{rnt}
-use Rattle.rnt.specs.Reading.{reading, plain, checked}
+use Rattle.length_field.specs.Lengths.{blockEnd}
+use Rattle.rnt.specs.Reading.{namedEnd, infoPlace, authorityVerdict, providerHead, reading, plain, checked}
 use Rattle.rnt.proofs.Listed.{plainReading, demandedReading, checkedReading, headReading, authorityReading, numberedReading}
-use Rattle.rnt_walker.specs.Entries.{providerFrom, authorityFrom}
+use Rattle.rnt_heads.specs.Heads.{endIn, headed}
+use Rattle.rnt_heads.specs.declared.Headed.the-variants as head
+use Rattle.rnt_heads.proofs.Listed.{past-head-listed, past-authority-listed}
+use Rattle.rnt_entries.specs.Entries.{providerFrom, authorityFrom}
 use Rattle.rnt_walker.specs.Places.{placesAt, walked}
 use Rattle.rnt_walker.specs.declared.RntWalked.the-variants as walk
-use Rattle.rnt_walker.specs.declared.entry.ProviderFound.the-variants as provider
-use Rattle.rnt_walker.specs.declared.entry.AuthorityFound.the-variants as authority
-use Rattle.rnt_walker.proofs.Listed.{read-places-listed, provider-from-listed, authority-from-listed}
+use Rattle.rnt_entries.specs.declared.ProviderFound.the-variants as provider
+use Rattle.rnt_entries.specs.declared.AuthorityFound.the-variants as authority
+use Rattle.rnt_walker.proofs.Listed.{read-places-listed}
+use Rattle.rnt_entries.proofs.Listed.{provider-from-listed, authority-from-listed}
 use Rattle.rnt_readings.proofs.Listed.{plain-places-listed, checked-places-listed}
 use Rattle.rnt_reader.specs.Sections.{sectionRead}
 use Rattle.rnt_reader.specs.declared.RntRead.the-variants as read
@@ -51,6 +56,12 @@ module _ (xs : List ℕ) (r : Refusal) where
   read-authority-given k j e = on-list numberedReading r refl (read-authority-listed xs k j r e)
 
   -- ---- walks; a provider and an authority by their places
+
+  pub past-head-given : (e p : ℕ) → headed (providerHead xs (endIn xs e) p) (namedEnd xs (infoPlace p)) (blockEnd xs p) ≡ head.Refused r → OnList r
+  past-head-given e p h = on-list headReading r refl (past-head-listed xs e p r h)
+
+  pub past-authority-given : (e p : ℕ) → reached (authorityVerdict xs (endIn xs e) p) (namedEnd xs p) ≡ reach.Refused r → OnList r
+  past-authority-given e p h = on-list authorityReading r refl (past-authority-listed xs e p r h)
 
   pub provider-from-given : (e p : ℕ) → providerFrom xs e p ≡ provider.Refused r → OnList r
   provider-from-given e p h = on-list headReading r refl (provider-from-listed xs e p r h)

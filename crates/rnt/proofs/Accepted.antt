@@ -8,12 +8,12 @@ use mathlib.Core.List.{List, [], _++_, map, append-assoc}
 use lib.ListN.{length, take, length-append, length-take}
 use Rattle.wire.specs.Lists.{Bytes}
 use Rattle.wire.specs.Numbers.{bytes32}
-use Rattle.wire.specs.Lengths.{longest, lengthBytes, lengthAt, blockBytes, blockAt, blockEnd, longRow}
+use Rattle.length_field.specs.Lengths.{longest, lengthBytes, lengthAt, blockBytes, blockAt, blockEnd, longRow}
 use Rattle.wire.specs.Runs.{eachRow, inOrder}
 use Rattle.wire.specs.declared.verdict.Verdict.the-variants.{Fine}
 use Rattle.wire.proofs.Lists.{bytes-append}
 use Rattle.wire.proofs.Words.{bytes32-bytes}
-use Rattle.wire.proofs.Blocks.{block-length, block-bytes, block-up, BlockRead, block-back, block-rebuild, block-fits}
+use Rattle.length_field.proofs.Blocks.{block-length, block-bytes, block-up, BlockRead, block-back, block-rebuild, block-fits}
 use Rattle.wire.proofs.RunLaws as runs
 use Rattle.wire.proofs.Verdicts.{then-fine, fine-then, passed-ltb, pass-ltb}
 use Rattle.crc.specs.Crc.{crcOf}

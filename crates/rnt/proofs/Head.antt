@@ -6,7 +6,7 @@ use native.Mathlib.Omega.{arith}
 use mathlib.Core.List.{List, [], _∷_, _++_}
 use lib.ListN.{length, take, drop, getD}
 use Rattle.wire.specs.Lists.{Bytes, firsts}
-use Rattle.wire.specs.Lengths.{longest, lengthBytes}
+use Rattle.length_field.specs.Lengths.{longest, lengthBytes}
 use Rattle.wire.proofs.Lists.{bytes-at, bytes-append, firsts-part}
 use Rattle.section_header.specs.Syntax.{headerBytes}
 use Rattle.section_header.proofs.HeaderLaws.{header-rebuild, header-fits, header-bytes, header-back}

@@ -4,10 +4,11 @@ use Prim.Native.Nat.{ℕ}
 use mathlib.Core.Path.{_≡_, refl}
 use mathlib.Core.Logic.{_↔_}
 use mathlib.Core.List.{List, [], _∷_, _++_}
-use Rattle.wire.specs.Lengths.{longRow}
+use Rattle.length_field.specs.Lengths.{longRow}
 use Rattle.wire.specs.Refusals.{tooShort, wrongLength, wrongCrc, noSuchNumber, sectionTooLong, noSyntaxIndicator, notRnt, commonTooLong, providerCut, providerTooLong, providerNameCut, providerDescriptorsCut, authorityCut}
 use Rattle.wire.specs.Verdict.{bad}
-use Rattle.wire.proofs.Among.{Among, among-row, among-then, among-more, Never, among-never, block-listed}
+use Rattle.wire.proofs.Among.{Among, among-row, among-then, among-more, Never, among-never}
+use Rattle.length_field.proofs.Listed.{block-listed}
 use Rattle.wire.proofs.RunLaws.{each-listed}
 use Rattle.frame.specs.Reading.{payloadEnd}
 use Rattle.frame.specs.declared.Demands.{Demands}

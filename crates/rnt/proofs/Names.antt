@@ -9,12 +9,13 @@ use lib.ListN.{length, take, drop, getD, length-append}
 use lib.Seq.{take-add, take-at}
 use borrow.Author.Tests.{lt-ltb, le-ltb}
 use Rattle.wire.specs.Lists.{Bytes, part}
-use Rattle.wire.specs.Lengths.{blockBytes, blockAt, blockEnd, blockNeed}
+use Rattle.length_field.specs.Lengths.{blockBytes, blockAt, blockEnd, blockNeed}
 use Rattle.wire.specs.Verdict.{bad, refuse, _▷_}
 use Rattle.wire.specs.declared.verdict.Verdict.the-variants.{Fine}
 use Rattle.wire.proofs.Lists.{bytes-at, bytes-append, bytes-part, length-part, firsts-part, at-drop-first, drop-past}
-use Rattle.wire.proofs.Blocks.{block-length, block-bytes, BlockRead, block-back, block-rebuild, block-fits, block-passed, block-pass}
-use Rattle.wire.proofs.Among.{listed, Among, among-row, among-then, block-listed}
+use Rattle.length_field.proofs.Blocks.{block-length, block-bytes, BlockRead, block-back, block-rebuild, block-fits, block-passed, block-pass}
+use Rattle.wire.proofs.Among.{listed, Among, among-row, among-then}
+use Rattle.length_field.proofs.Listed.{block-listed}
 use Rattle.wire.proofs.Verdicts.{then-fine, fine-then, passed-ltb, pass-ltb}
 use Rattle.rnt.specs.Syntax.{widestPolicy, Named, Authority, namedBytes, authorityNamed, NamedFits, AuthorityFits}
 use Rattle.rnt.specs.Reading.{nameEnd, namedEnd, namedAt, policyOf, reservedOf, authorityOf, namedVerdict}

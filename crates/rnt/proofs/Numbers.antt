@@ -5,12 +5,12 @@ use Prim.Native.Nat.{ℕ, suc, _+_, _≤_, _<_}
 use native.Mathlib.Omega.{arith}
 use mathlib.Core.List.{List, map}
 use lib.ListN.{length, getD, length-map}
-use Rattle.wire.specs.Lengths.{blockEnd}
+use Rattle.length_field.specs.Lengths.{blockEnd}
 use Rattle.wire.specs.Refusals.{authorityCut}
 use Rattle.wire.specs.Runs.{placesTo, eachRow}
 use Rattle.wire.specs.Verdict.{countedRow}
 use Rattle.wire.specs.declared.verdict.Verdict.the-variants.{Fine}
-use Rattle.wire.proofs.Blocks.{block-up}
+use Rattle.length_field.proofs.Blocks.{block-up}
 use Rattle.wire.proofs.RunLaws.{each-at, told-at, place-first, place-next, place-last}
 use Rattle.wire.proofs.Verdicts.{then-fine, passed-leb}
 use Rattle.frame.specs.Reading.{payloadEnd, plainDemands}

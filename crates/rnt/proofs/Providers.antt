@@ -7,12 +7,12 @@ use mathlib.Core.List.{List, _++_, map, append-assoc, append-cancel-left}
 use lib.ListN.{length, take, drop, length-append}
 use lib.Seq.{take-add}
 use Rattle.wire.specs.Lists.{Bytes, part}
-use Rattle.wire.specs.Lengths.{lengthBytes, lengthAt, besideAt, BlockFits, blockBytes, blockEnd}
+use Rattle.length_field.specs.Lengths.{lengthBytes, lengthAt, besideAt, BlockFits, blockBytes, blockEnd}
 use Rattle.wire.specs.Refusals.{providerCut, providerTooLong, providerNameCut, providerDescriptorsCut, authorityCut}
 use Rattle.wire.specs.Runs.{eachRow, inOrder}
 use Rattle.wire.specs.declared.verdict.Verdict.the-variants.{Fine}
 use Rattle.wire.proofs.Lists.{bytes-append, length-part, drop-past}
-use Rattle.wire.proofs.Blocks.{length-lengthBytes, length-short, beside-narrow, block-length, block-bytes, block-up, BlockRead, block-back, block-rebuild, block-passed, block-pass}
+use Rattle.length_field.proofs.Blocks.{length-lengthBytes, length-short, beside-narrow, block-length, block-bytes, block-up, BlockRead, block-back, block-rebuild, block-passed, block-pass}
 use Rattle.wire.proofs.RunLaws as runs
 use Rattle.wire.proofs.Verdicts.{then-fine, fine-then}
 use Rattle.rnt.specs.Syntax.{Authority, Provider, namedBytes, authorityNamed, authorityBytes, infoBytes, entryOf, providerBytes, AuthorityFits, ProviderFits}

@@ -5,7 +5,7 @@ use mathlib.Core.Path.{_≡_, refl}
 use mathlib.Core.Bool.{true}
 use mathlib.Core.List.{List, [], _∷_}
 use lib.ListN.{take, replicate}
-use Rattle.wire.specs.Lengths.{longRow, blockRows}
+use Rattle.length_field.specs.Lengths.{longRow, blockRows}
 use Rattle.wire.specs.Runs.{placesTo}
 use Rattle.wire.specs.Verdict.{bad, refuse, _▷_}
 use Rattle.wire.specs.declared.verdict.Verdict.the-variants.{Fine}

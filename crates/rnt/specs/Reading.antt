@@ -5,7 +5,7 @@ use mathlib.Core.List.{List, [], _∷_, map}
 use lib.Dec.{ltb}
 use lib.ListN.{length, getD}
 use Rattle.wire.specs.Lists.{part}
-use Rattle.wire.specs.Lengths.{lengthAt, besideAt, blockAt, blockEnd, longRow, blockVerdict, blockNeed}
+use Rattle.length_field.specs.Lengths.{lengthAt, besideAt, blockAt, blockEnd, longRow, blockVerdict, blockNeed}
 use Rattle.wire.specs.Refusals.{commonTooLong, providerCut, providerTooLong, providerNameCut, providerDescriptorsCut, authorityCut}
 use Rattle.wire.specs.Runs.{placesTo, eachRow}
 use Rattle.wire.specs.Verdict.{countedRow, refuse, _▷_}

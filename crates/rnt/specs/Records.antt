@@ -3,9 +3,9 @@
 use Prim.Native.Nat.{ℕ, _+_}
 use mathlib.Core.List.{List}
 use lib.ListN.{getD}
-use Rattle.wire.specs.Lengths.{lengthAt, besideAt, blockEnd}
-use Rattle.wire.specs.Spans.{span}
-use Rattle.wire.specs.declared.spans.Span.{Span}
+use Rattle.length_field.specs.Lengths.{lengthAt, besideAt, blockEnd}
+use Rattle.spans.specs.Spans.{span}
+use Rattle.spans.specs.declared.Span.{Span}
 use Rattle.rnt.specs.Reading.{nameEnd, namedEnd, policyOf, reservedOf, infoPlace}
 use Rattle.rnt.specs.declared.ResolutionProvider.{ResolutionProvider}
 use Rattle.rnt.specs.declared.CridAuthority.{CridAuthority}

@@ -4,7 +4,7 @@ use Prim.Native.Nat.{ℕ, _+_, _-_, _*_, _≤_, _<_}
 use mathlib.Core.List.{List, [], _∷_, _++_}
 use lib.ListN.{length}
 use Rattle.wire.specs.Lists.{Bytes}
-use Rattle.wire.specs.Lengths.{longest, widestBeside, Block, BlockFits, blockBytes}
+use Rattle.length_field.specs.Lengths.{longest, widestBeside, Block, BlockFits, blockBytes}
 use Rattle.wire.specs.Refusals.{notRnt}
 use Rattle.wire.specs.Runs.{inOrder, AllFit}
 use Rattle.section_header.specs.Syntax.{frontLength, headerBytes, HeaderFits}

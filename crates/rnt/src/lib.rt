@@ -3,7 +3,7 @@ ghost use mathlib.Core.Path.{_≡_};
 ghost use Rattle.rnt.specs.Syntax.{commonPlace, rnt};
 use frame::Table;
 use section_header::SectionHeader;
-use wire::spans::Span;
+use spans::Span;
 use wire::verdict::Refusal;
 
 // The fields before the common descriptors, the section's length apart. The section header's table_id_extension is the

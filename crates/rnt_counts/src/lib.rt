@@ -1,9 +1,8 @@
 // What a program that prints a resolution notification section asks besides its records: where the providers stand, and how
 // many authorities one of them has. What is promised of this crate is that it traps on nothing and ends.
 use frame::payload_end;
+use rnt_entries::AuthorityFound;
 use rnt_reader::RntSection;
-use rnt_walker::entry;
-use rnt_walker::entry::AuthorityFound;
 
 // Where the first provider starts, and where the last one ends.
 pub struct ProviderPlaces {
@@ -28,7 +27,7 @@ pub fn places_of(section: RntSection) -> ProviderPlaces {
 
 // The place behind the authority at a place.
 fn behind_authority(s: &[u8], end: u16, at: u16) -> u16 {
-    let found = entry::read_authority(s, end, at);
+    let found = rnt_entries::read_authority(s, end, at);
     match found {
         AuthorityFound::Got { authority: _, next } => next,
         AuthorityFound::Refused(_) => end,

@@ -2,7 +2,7 @@
 -- Assumes nothing.
 use Prim.Native.Nat.{ℕ, zero, suc}
 use mathlib.Core.List.{List, [], _∷_}
-use Rattle.wire.specs.Spans.{spanOf}
+use Rattle.spans.specs.Spans.{spanOf}
 use Rattle.section_header.specs.Reading.{noHeader}
 use Rattle.rnt.specs.Syntax.{Authority, Provider, Section}
 use Rattle.rnt.specs.Reading.{plain}

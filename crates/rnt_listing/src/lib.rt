@@ -21,13 +21,12 @@ use rnt::CridAuthority;
 use rnt::ResolutionProvider;
 use rnt_counts::count_authorities;
 use rnt_counts::places_of;
+use rnt_entries::AuthorityFound;
+use rnt_entries::ProviderFound;
 use rnt_reader::RntRead;
 use rnt_reader::RntSection;
-use rnt_walker::entry;
-use rnt_walker::entry::AuthorityFound;
-use rnt_walker::entry::ProviderFound;
-use wire::spans::Span;
-use wire::spans::handed;
+use spans::Span;
+use spans::handed;
 
 const NAME: Short = *b"rntlist_________________";
 
@@ -72,7 +71,7 @@ fn put_authority(s: &[u8], number: usize, authority: CridAuthority, is_all: bool
 
 // The authority at a place of a provider that ends at `end`. The answer: the place behind it.
 fn put_authority_at(s: &[u8], number: usize, end: u16, at: u16, is_all: bool) -> u16 {
-    let found = entry::read_authority(s, end, at);
+    let found = rnt_entries::read_authority(s, end, at);
     match found {
         AuthorityFound::Got { authority, next } => {
             put_authority(s, number, authority, is_all);
@@ -108,7 +107,7 @@ fn put_provider(s: &[u8], number: usize, provider: ResolutionProvider, is_all: b
 
 // The provider at a place of a payload that ends at `end`. The answer: the place behind it.
 fn put_provider_at(s: &[u8], number: usize, end: u16, at: u16, is_all: bool) -> u16 {
-    let found = entry::read_provider(s, end, at);
+    let found = rnt_entries::read_provider(s, end, at);
     match found {
         ProviderFound::Got(provider) => {
             put_provider(s, number, provider, is_all);

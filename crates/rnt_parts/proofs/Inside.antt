@@ -5,12 +5,12 @@ use Prim.Native.Nat.{ℕ, _+_, _≤_}
 use native.Mathlib.Omega.{arith}
 use mathlib.Core.List.{List}
 use lib.ListN.{length, getD}
-use Rattle.wire.specs.Spans.{span, spanOf, spanIn}
-use Rattle.wire.specs.declared.spans.Span.{Span}
+use Rattle.spans.specs.Spans.{span, spanOf, spanIn}
+use Rattle.spans.specs.declared.Span.{Span}
 use Rattle.wire.specs.declared.verdict.Refusal.{Refusal}
 use Rattle.wire.specs.declared.verdict.Verdict.{Verdict}
 use Rattle.wire.specs.declared.verdict.Verdict.the-variants.{Fine, Refused}
-use Rattle.wire.proofs.SpanLaws.{span-inside}
+use Rattle.spans.proofs.SpanLaws.{span-inside}
 use Rattle.frame.specs.Reading.{payloadEnd, plainDemands}
 use Rattle.rnt.specs.Syntax.{Authority, Provider}
 use Rattle.rnt.specs.Reading.{providerAt, sectionAt, plain, providerRows, authorityRows}

@@ -2,8 +2,8 @@
 -- Assumes nothing.
 use Prim.Native.Nat.{ℕ}
 use mathlib.Core.List.{List}
-use Rattle.wire.specs.Spans.{span}
-use Rattle.wire.specs.declared.spans.Span.{Span}
+use Rattle.spans.specs.Spans.{span}
+use Rattle.spans.specs.declared.Span.{Span}
 use Rattle.rnt.specs.Reading.{plain}
 use Rattle.rnt_reader.specs.Sections.{sectionRead}
 use Rattle.rnt_reader.specs.declared.RntRead.{RntRead}

@@ -2,13 +2,13 @@
 // Why there is none, the readings and the calls by number answer.
 ghost use mathlib.Core.Path.{_≡_};
 ghost use Rattle.wire.specs.Lists.{within};
-ghost use Rattle.wire.specs.Spans.{spanOf};
+ghost use Rattle.spans.specs.Spans.{spanOf};
 ghost use Rattle.rnt_parts.specs.Parts.{commonOf, providerNameOf, providerDescriptorsOf, authorityNameOf, authorityDescriptorsOf, commonSpan, providerName, providerDescriptors, authorityName, authorityDescriptors};
 use rnt_providers::AuthorityRead;
 use rnt_providers::ProviderRead;
 use rnt_reader::RntRead;
-use wire::spans::Span;
-use wire::spans::handed;
+use spans::Span;
+use spans::handed;
 
 const NOTHING: Span = Span {
     start: 0,

@@ -16,12 +16,12 @@ use Rattle.rnt.specs.declared.CridAuthority.{CridAuthority}
 use Rattle.rnt.specs.declared.ResolutionProvider.{ResolutionProvider}
 use Rattle.rnt.proofs.Numbers.{provider-passed}
 use Rattle.rnt_walker.specs.Places.{authoritiesOf, authorityOf}
-use Rattle.rnt_walker.specs.Entries.{providerFrom, authorityFrom}
-use Rattle.rnt_walker.specs.declared.entry.ProviderFound.{ProviderFound}
-use Rattle.rnt_walker.specs.declared.entry.ProviderFound.the-variants as providing
-use Rattle.rnt_walker.specs.declared.entry.AuthorityFound.{AuthorityFound}
-use Rattle.rnt_walker.specs.declared.entry.AuthorityFound.the-variants as authoring
-use Rattle.rnt_walker.proofs.Listing.{listed-provider, listed-authority}
+use Rattle.rnt_entries.specs.Entries.{providerFrom, authorityFrom}
+use Rattle.rnt_entries.specs.declared.ProviderFound.{ProviderFound}
+use Rattle.rnt_entries.specs.declared.ProviderFound.the-variants as providing
+use Rattle.rnt_entries.specs.declared.AuthorityFound.{AuthorityFound}
+use Rattle.rnt_entries.specs.declared.AuthorityFound.the-variants as authoring
+use Rattle.rnt_entries.proofs.Listing.{listed-provider, listed-authority}
 use Rattle.rnt_providers.specs.Providers.{providerBy, authorityBy, numberedProvider, numberedAuthority}
 use Rattle.rnt_providers.specs.declared.ProviderRead.the-variants as provider
 use Rattle.rnt_providers.specs.declared.AuthorityRead.the-variants as authority

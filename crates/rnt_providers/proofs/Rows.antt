@@ -2,9 +2,9 @@
 -- Assumes nothing.
 use Prim.Native.Nat.{ℕ}
 use mathlib.Core.Path.{_≡_, refl}
-use Rattle.wire.specs.Lengths.{longRow, blockRows}
+use Rattle.length_field.specs.Lengths.{longRow, blockRows}
 use Rattle.wire.specs.Runs.{placesTo}
-use Rattle.wire.specs.Spans.{span}
+use Rattle.spans.specs.Spans.{span}
 use Rattle.wire.specs.Verdict.{refuse, _▷_}
 use Rattle.wire.specs.declared.verdict.Refusal.{Refusal}
 use Rattle.frame.specs.Reading.{opened, readingBy}

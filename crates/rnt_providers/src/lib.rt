@@ -6,11 +6,10 @@ ghost use Rattle.rnt_walker.specs.Places.{placesAt};
 ghost use Rattle.rnt_providers.specs.Providers.{numberedProvider, numberedAuthority};
 use rnt::CridAuthority;
 use rnt::ResolutionProvider;
+use rnt_entries::AuthorityFound;
+use rnt_entries::ProviderFound;
 use rnt_walker::RntPlaces;
 use rnt_walker::RntWalked;
-use rnt_walker::entry;
-use rnt_walker::entry::AuthorityFound;
-use rnt_walker::entry::ProviderFound;
 use wire::verdict::Refusal;
 
 pub enum ProviderRead {
@@ -39,7 +38,7 @@ fn provider_at(s: &[u8], places: RntPlaces, number: usize) -> ProviderRead
         });
     }
     let end = frame::payload_end(places.total) as u16;
-    let found = entry::read_provider(s, end, places.provider_at as u16);
+    let found = rnt_entries::read_provider(s, end, places.provider_at as u16);
     match found {
         ProviderFound::Got(provider) => ProviderRead::Got {
             provider,
@@ -80,7 +79,7 @@ fn authority_at(s: &[u8], places: RntPlaces, number: usize, authority: usize) ->
         });
     }
     let end = frame::payload_end(places.total) as u16;
-    let found = entry::read_authority(s, end, places.authority_at as u16);
+    let found = rnt_entries::read_authority(s, end, places.authority_at as u16);
     match found {
         AuthorityFound::Got { authority, next: _ } => AuthorityRead::Got(authority),
         AuthorityFound::Refused(r) => AuthorityRead::Refused(r),

@@ -2,8 +2,8 @@
 -- Assumes nothing.
 use Prim.Native.Nat.{ℕ, _+_}
 use mathlib.Core.List.{List}
-use Rattle.wire.specs.Lengths.{lengthAt, besideAt}
-use Rattle.wire.specs.Spans.{span}
+use Rattle.length_field.specs.Lengths.{lengthAt, besideAt}
+use Rattle.spans.specs.Spans.{span}
 use Rattle.wire.specs.declared.verdict.Verdict.{Verdict}
 use Rattle.wire.specs.declared.verdict.Verdict.the-variants.{Fine, Refused}
 use Rattle.frame.specs.Reading.{totalOf}

@@ -10,12 +10,11 @@ ghost use Rattle.rnt_walker.specs.Places.{placesAt, walked};
 ghost use Rattle.rnt_walker.specs.declared.RntPlaces.{RntPlaces};
 ghost use Rattle.rnt_walker.specs.declared.RntWalked.the-variants.{Read};
 ghost use Rattle.rnt_reader.specs.Sections.{sectionInfo, sectionRead};
+use length_field::LengthField;
 use rnt::RntHeader;
 use rnt_walker::RntPlaces;
 use rnt_walker::RntWalked;
-use section_header::SectionHeader;
-use wire::lengths::LengthField;
-use wire::spans::Span;
+use spans::Span;
 use wire::verdict::Refusal;
 
 // A section that was read. Its first provider stands where the common descriptors end.
@@ -36,7 +35,7 @@ fn header_at(s: &[u8]) -> RntHeader
     requires { ⌜ commonPlace ≤ length (now s) ⌝ }
     ensures { λ r. ⌜ r ≡ rntHeaderAt (now (s .entry)) ⌝ }
 {
-    let section = SectionHeader::of_bytes(s[1], s[3], s[4], s[5], s[6], s[7]);
+    let section = header_reader::read_header(s[1], s[3], s[4], s[5], s[6], s[7]);
     RntHeader {
         section,
         context_id_type: s[RntHeader::TYPE_AT],

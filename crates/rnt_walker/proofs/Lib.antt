@@ -1,6 +1,5 @@
--- What the stages of the walk answer, and that each public contract leaves one outcome.
+-- What the stages of the walk answer, and that the public contract leaves one outcome.
 pub mod Walks
-pub mod EntryLaws
-pub mod Listing
+pub mod Nothing
 pub mod Listed
 pub mod Unique

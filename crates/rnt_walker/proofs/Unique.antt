@@ -4,16 +4,6 @@ use mathlib.Core.Path.{refl}
 use Rattle.wire.proofs.One.{One, both}
 use Rattle.rnt_walker.proofs.walk.read_places.Kinds as read-places-kinds
 use Rattle.rnt_walker.proofs.walk.read_places.Reads as read-places-reads
-use Rattle.rnt_walker.proofs.entry.read_provider.Kinds as read-provider-kinds
-use Rattle.rnt_walker.proofs.entry.read_provider.Reads as read-provider-reads
-use Rattle.rnt_walker.proofs.entry.read_authority.Kinds as read-authority-kinds
-use Rattle.rnt_walker.proofs.entry.read_authority.Reads as read-authority-reads
 
 pub read-places-one : One read-places-kinds.ps read-places-kinds.r read-places-reads.Asked read-places-reads.Learnt
 read-places-one = record { total = λ κs a. tt; one = λ κs a x y v w p q. (both p q, refl) }
-
-pub read-provider-one : One read-provider-kinds.ps read-provider-kinds.r read-provider-reads.Asked read-provider-reads.Learnt
-read-provider-one = record { total = λ κs a. tt; one = λ κs a x y v w p q. (both p q, refl) }
-
-pub read-authority-one : One read-authority-kinds.ps read-authority-kinds.r read-authority-reads.Asked read-authority-reads.Learnt
-read-authority-one = record { total = λ κs a. tt; one = λ κs a x y v w p q. (both p q, refl) }

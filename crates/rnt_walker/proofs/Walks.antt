@@ -9,54 +9,25 @@ use lib.Dec.{eqb, ltb}
 use lib.ListN.{length, getD}
 use borrow.Author.Tests.{eqb-true, eqb-false, ltb-true, ltb-false}
 use Rattle.wire.specs.Choice.{pick}
-use Rattle.wire.specs.Verdict.{bad, reached}
 use Rattle.wire.specs.declared.verdict.Refusal.{Refusal}
 use Rattle.wire.specs.declared.verdict.Verdict.{Verdict}
 use Rattle.wire.specs.declared.verdict.Verdict.the-variants.{Fine, Refused}
 use Rattle.wire.proofs.Verdicts.{go-on, refused-then}
-use Rattle.wire.specs.Lengths.{lengthAt, blockEnd, longRow, blockVerdict}
-use Rattle.wire.specs.Refusals.{commonTooLong, providerCut, providerTooLong, providerNameCut, providerDescriptorsCut}
+use Rattle.length_field.specs.Lengths.{lengthAt, blockEnd, longRow}
+use Rattle.wire.specs.Refusals.{commonTooLong}
 use Rattle.wire.specs.Runs.{placesTo, eachRow}
 use Rattle.wire.proofs.RunLaws.{places-none, places-more, run-on, run-stop, run-count}
 use Rattle.frame.specs.Reading.{payloadEnd}
 use Rattle.rnt.specs.Syntax.{commonPlace}
-use Rattle.rnt.specs.Reading.{infoPlace, namedEnd, namedVerdict, providerHead, providerVerdict, commonRow, payloadVerdict}
+use Rattle.rnt.specs.Reading.{infoPlace, namedEnd, providerHead, providerVerdict, commonRow, payloadVerdict}
 use Rattle.rnt_walker.specs.Places.{walked}
-use Rattle.rnt_walker.specs.Stages.{headed, counted, passed, authoritiesVerdict, providersVerdict}
+use Rattle.rnt_walker.specs.Stages.{counted, passed, authoritiesVerdict, providersVerdict}
 use Rattle.rnt_walker.specs.declared.RntPlaces.{RntPlaces}
 use Rattle.rnt_walker.specs.declared.RntWalked.the-variants as walk
-use Rattle.rnt_walker.specs.declared.walk.Headed.the-variants as head
 use Rattle.rnt_walker.specs.declared.walk.Counted.the-variants as count
 use Rattle.rnt_walker.specs.declared.walk.Passed.the-variants as past
 
 -- ---- answers, made and taken apart
-
-pub cut-reached : (v : Verdict) (p n f g : ℕ) → v ≡ bad n f g → reached (bad n f g) 0 ≡ reached v p
-unfolding reached
-cut-reached v p n f g e = rw e
-
-pub record HeadKnown (v : Verdict) (p q a b : ℕ) : Type 0 where
-  pub fine : v ≡ Fine
-  pub first : p ≡ a
-  pub end : q ≡ b
-
-pub headed-at : (v : Verdict) (p q a b : ℕ) → headed v p q ≡ head.At a b → HeadKnown v p q a b
-unfolding headed
-headed-at Fine p q a b e = record { fine = refl; first = cc; end = cc }
-headed-at (Refused r) p q a b e = let z : _≡_ {A = ℕ} 0 1 = cc in absurd (omega arith)
-
-pub headed-refused : (v : Verdict) (p q : ℕ) (r : Refusal) → headed v p q ≡ head.Refused r → v ≡ Refused r
-unfolding headed
-headed-refused Fine p q r e = let z : _≡_ {A = ℕ} 0 1 = cc in absurd (omega arith)
-headed-refused (Refused r′) p q r e = cc
-
-pub at-headed : (v : Verdict) (p q a b : ℕ) → v ≡ Fine → p ≡ a → q ≡ b → head.At a b ≡ headed v p q
-unfolding headed
-at-headed v p q a b f g h = rw (f, g, h)
-
-pub refused-headed : (v : Verdict) (p q : ℕ) (r : Refusal) → v ≡ Refused r → head.Refused r ≡ headed v p q
-unfolding headed
-refused-headed v p q r e = rw e
 
 pub record CountKnown (v : Verdict) (ps : List ℕ) (k a b : ℕ) : Type 0 where
   pub fine : v ≡ Fine
@@ -205,16 +176,6 @@ module _ (next : ℕ → ℕ) (up : (q : ℕ) → q < next q) (e a : ℕ) where
 -- ---- one provider
 
 module _ (xs : List ℕ) (e p : ℕ) where
-  pub head-stop : (r : Refusal) → blockVerdict providerCut providerTooLong xs e p ≡ Refused r → providerHead xs e p ≡ Refused r
-  unfolding providerHead
-  head-stop r v = refused-then _ _ r v
-
-  -- behind its length the verdict on its head is that on the name and the descriptors
-  pub head-on : (q : ℕ) → blockVerdict providerCut providerTooLong xs e p ≡ Fine → blockEnd xs p ≡ q
-      → providerHead xs e p ≡ namedVerdict providerNameCut providerDescriptorsCut xs q (infoPlace p)
-  unfolding providerHead
-  head-on q v g = go-on _ _ v ∙ rw g
-
   pub provider-stop : (r : Refusal) → providerHead xs e p ≡ Refused r → providerVerdict xs e p ≡ Refused r
   unfolding providerVerdict
   provider-stop r v = refused-then _ _ r v

@@ -3,24 +3,15 @@
 use Prim.Native.Nat.{ℕ}
 use mathlib.Core.List.{List}
 use lib.ListN.{length, getD}
-use Rattle.wire.specs.Lengths.{besideAt, blockEnd}
 use Rattle.wire.specs.Runs.{placesTo, eachRow}
 use Rattle.wire.specs.declared.verdict.Verdict.{Verdict}
 use Rattle.wire.specs.declared.verdict.Verdict.the-variants.{Fine, Refused}
 use Rattle.frame.specs.Reading.{payloadEnd}
-use Rattle.rnt.specs.Reading.{nameEnd, namedEnd, providerPlaces, authorityVerdict, providerVerdict}
-use Rattle.rnt.specs.Records.{nameSpan, descriptorsSpan}
-use Rattle.rnt_walker.specs.declared.entry.NamedPlaces.{NamedPlaces}
-use Rattle.rnt_walker.specs.declared.walk.Headed.{Headed}
-use Rattle.rnt_walker.specs.declared.walk.Headed.the-variants as head
+use Rattle.rnt.specs.Reading.{namedEnd, providerPlaces, authorityVerdict, providerVerdict}
 use Rattle.rnt_walker.specs.declared.walk.Counted.{Counted}
 use Rattle.rnt_walker.specs.declared.walk.Counted.the-variants as count
 use Rattle.rnt_walker.specs.declared.walk.Passed.{Passed}
 use Rattle.rnt_walker.specs.declared.walk.Passed.the-variants as past
-
-unfoldable pub headed : Verdict → ℕ → ℕ → Headed
-headed Fine p q = head.At p q
-headed (Refused r) p q = head.Refused r
 
 -- of things at those places: how many, and where number k stands
 unfoldable pub counted : Verdict → List ℕ → ℕ → Counted
@@ -37,6 +28,3 @@ authoritiesVerdict xs e p = eachRow (authorityVerdict xs e) (placesTo (namedEnd 
 
 abbrev pub providersVerdict : List ℕ → Verdict
 providersVerdict xs = eachRow (providerVerdict xs (payloadEnd xs)) (providerPlaces xs)
-
-abbrev pub namedInfo : List ℕ → ℕ → NamedPlaces
-namedInfo xs p = record { name = nameSpan xs p; beside = besideAt xs (nameEnd xs p); descriptors = descriptorsSpan xs p }

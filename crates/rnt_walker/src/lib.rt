@@ -1,8 +1,7 @@
 // Walking over a resolution notification section, by what a reading demands: the places of its providers and of their
-// authorities, and either by its place.
+// authorities.
 use wire::verdict::Refusal;
 
-pub mod entry;
 pub mod walk;
 
 // The bytes of the section, the number of its providers, and of the provider that was asked for its place, the number of its

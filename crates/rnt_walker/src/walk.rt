@@ -1,108 +1,26 @@
 // One pass over a section: it checks what it walks over, counts, and finds the places on its way.
 ghost use mathlib.Core.Path.{_≡_};
-ghost use Prim.Native.Nat.{_+_, _≤_, min};
+ghost use Prim.Native.Nat.{_≤_};
 ghost use lib.Dec.{eqb};
 ghost use lib.ListN.{length};
 ghost use Rattle.wire.specs.Choice.{pick};
-ghost use Rattle.wire.specs.Lengths.{blockEnd};
+ghost use Rattle.length_field.specs.Lengths.{blockEnd};
 ghost use Rattle.wire.specs.Runs.{placesTo};
-ghost use Rattle.wire.specs.Verdict.{bad, reached};
 ghost use Rattle.frame.specs.Syntax.{least};
 ghost use Rattle.frame.specs.Reading.{totalOf, payloadEnd};
 ghost use Rattle.rnt.specs.Syntax.{commonPlace, rnt};
-ghost use Rattle.rnt.specs.Reading.{namedEnd, infoPlace, authorityPlaces, providerPlaces, namedVerdict, providerHead, providerVerdict, commonRow, payloadVerdict, reading};
+ghost use Rattle.rnt.specs.Reading.{namedEnd, authorityPlaces, providerVerdict, payloadVerdict, reading};
 ghost use Rattle.rnt_walker.specs.Places.{placesAt, walked};
-ghost use Rattle.rnt_walker.specs.Stages.{headed, counted, passed, authoritiesVerdict, providersVerdict};
+ghost use Rattle.rnt_walker.specs.Stages.{counted, passed, authoritiesVerdict, providersVerdict};
 use crate::RntPlaces;
 use crate::RntWalked;
 use frame::Demands;
+use length_field::LengthField;
 use rnt::RntHeader;
-use wire::lengths::LengthField;
+use rnt_heads::Headed;
 use wire::verdict::Reached;
 use wire::verdict::Refusal;
 use wire::verdict::Verdict;
-
-pub(crate) fn smaller(a: usize, b: usize) -> usize
-    ensures { λ r. ⌜ r ≡ min a b ⌝ }
-{
-    if a < b { a } else { b }
-}
-
-fn cut(number: u8, need: usize, have: usize) -> Reached
-    ensures { λ r. ⌜ r ≡ reached (bad number need have) 0 ⌝ }
-{
-    Reached::Refused(Refusal {
-        number,
-        first: need,
-        second: have,
-    })
-}
-
-// Over the name and descriptors at `p`, which end at `e` at the latest: `name` (need, have) if the name or its length is cut
-// off, `descriptors` (need, have) if they or their length are.
-pub(crate) fn past_named(s: &[u8], e: usize, p: usize, name: u8, descriptors: u8) -> Reached
-    requires { ⌜ (e ≤ length (now s)) × (p ≤ 65537) ⌝ }
-    ensures { λ r. ⌜ r ≡ reached (namedVerdict name descriptors (now (s .entry)) e p) (namedEnd (now (s .entry)) p) ⌝ }
-{
-    let first = p + 1;
-    if e < first {
-        return cut(name, first, e);
-    }
-    let behind = first + wire::wide(s[p]);
-    if e < behind {
-        return cut(name, behind, e);
-    }
-    let start = behind + LengthField::BYTES;
-    if e < start {
-        return cut(descriptors, start, e);
-    }
-    let field = LengthField::of_bytes(s[behind], s[behind + 1]);
-    let end = start + field.length;
-    if e < end {
-        return cut(descriptors, end, e);
-    }
-    Reached::At(end)
-}
-
-// Where a provider's authorities begin and where they end, with it.
-pub(crate) enum Headed {
-    At { first: usize, end: usize },
-    Refused(Refusal),
-}
-
-// Over the length, the name and the descriptors of the provider at `p` of a payload that ends at `e`: 42 to 45.
-pub(crate) fn past_head(s: &[u8], e: usize, p: usize) -> Headed
-    requires { ⌜ (e ≤ length (now s)) × (p ≤ 65535) ⌝ }
-    ensures { λ r. ⌜ r ≡ headed (providerHead (now (s .entry)) e p) (namedEnd (now (s .entry)) (infoPlace p)) (blockEnd (now (s .entry)) p) ⌝ }
-{
-    let start = p + LengthField::BYTES;
-    if e < start {
-        return Headed::Refused(Refusal {
-            number: Refusal::PROVIDER_CUT,
-            first: start,
-            second: e,
-        });
-    }
-    let field = LengthField::of_bytes(s[p], s[p + 1]);
-    let v = field.check_left(e - start, Refusal::PROVIDER_TOO_LONG);
-    match v {
-        Verdict::Fine => {
-            let end = start + field.length;
-            let named = past_named(
-                s,
-                end,
-                start,
-                Refusal::PROVIDER_NAME_CUT,
-                Refusal::PROVIDER_DESCRIPTORS_CUT,
-            );
-            match named {
-                Reached::At(first) => Headed::At { first, end },
-                Reached::Refused(r) => Headed::Refused(r),
-            }
-        }
-        Verdict::Refused(r) => Headed::Refused(r),
-    }
-}
 
 // What stands at the number that is looked for, and else what was found before.
 fn found_at(i: usize, number: usize, here: usize, before: usize) -> usize
@@ -126,7 +44,7 @@ fn past_authorities(s: &[u8], e: usize, at: usize, number: usize) -> Counted
     let mut i: usize = 0;
     let mut place: usize = 0;
     while p < e {
-        let step = past_named(s, e, p, Refusal::AUTHORITY_CUT, Refusal::AUTHORITY_CUT);
+        let step = rnt_heads::past_authority(s, e, p as u16);
         match step {
             Reached::At(next) => {
                 place = found_at(i, number, p, place);
@@ -156,7 +74,7 @@ fn past_provider(s: &[u8], e: usize, p: usize, number: usize) -> Passed
     requires { ⌜ (e ≤ length (now s)) × ((e ≤ 65535) × (p ≤ 65535)) ⌝ }
     ensures { λ r. ⌜ r ≡ passed (providerVerdict (now (s .entry)) e p) (blockEnd (now (s .entry)) p) (authorityPlaces (now (s .entry)) p) number ⌝ }
 {
-    let head = past_head(s, e, p);
+    let head = rnt_heads::past_head(s, e, p as u16);
     match head {
         Headed::At { first, end } => {
             let authorities = past_authorities(s, end, first, number);

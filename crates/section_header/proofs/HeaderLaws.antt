@@ -10,7 +10,7 @@ use lib.ListN.{length, drop, getD}
 use Rattle.wire.specs.Choice.{bit}
 use Rattle.wire.specs.Lists.{Bytes, firsts}
 use Rattle.wire.specs.Numbers.{be16}
-use Rattle.wire.specs.Lengths.{longest, lengthBytes, lengthAt, besideOf, besideAt}
+use Rattle.length_field.specs.Lengths.{longest, lengthBytes, lengthAt, besideOf, besideAt}
 use Rattle.wire.specs.Refusals.{tooWide, noSyntaxIndicator}
 use Rattle.wire.specs.Verdict.{bad, _▷_}
 use Rattle.wire.specs.declared.verdict.Verdict.the-variants.{Fine}

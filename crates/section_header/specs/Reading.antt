@@ -6,7 +6,7 @@ use mathlib.Core.List.{List}
 use lib.Dec.{eqb}
 use lib.ListN.{getD}
 use Rattle.wire.specs.Numbers.{be16}
-use Rattle.wire.specs.Lengths.{besideAt}
+use Rattle.length_field.specs.Lengths.{besideAt}
 use Rattle.field.specs.Fields.{low, sectionReserved, versionNumber, versionReserved}
 use Rattle.section_header.specs.Syntax.{headerOf}
 use Rattle.section_header.specs.declared.SectionHeader.{SectionHeader}

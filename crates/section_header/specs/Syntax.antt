@@ -6,7 +6,7 @@ use mathlib.Core.Bool.{Bool, true}
 use mathlib.Core.List.{List, [], _∷_, _++_}
 use Rattle.wire.specs.Choice.{bit}
 use Rattle.wire.specs.Numbers.{bytes16}
-use Rattle.wire.specs.Lengths.{lengthBytes}
+use Rattle.length_field.specs.Lengths.{lengthBytes}
 use Rattle.field.specs.Fields.{sectionReserved, versionNumber, versionReserved}
 use Rattle.section_header.specs.declared.SectionHeader.{SectionHeader}
 

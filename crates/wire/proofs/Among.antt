@@ -9,7 +9,6 @@ use native.Mathlib.Omega.{arith}
 use lib.Dec.{eqb}
 use borrow.Author.Tests.{eqb-true, eq-eqb}
 use Rattle.wire.specs.Choice.{pick}
-use Rattle.wire.specs.Lengths.{blockRows, lastVerdict}
 use Rattle.wire.specs.Verdict.{bad, refuse, _▷_}
 use Rattle.wire.specs.declared.verdict.Refusal.{Refusal}
 use Rattle.wire.specs.declared.verdict.Verdict.{Verdict}
@@ -124,14 +123,3 @@ listed-apart (m ∷ ns) ms n a e = by (eqb n m) (listed m ms) refl refl a e (λ 
     by b true q r s t f = let z : _≡_ {A = ℕ} 0 1 = cc in absurd (omega arith)
     by true false q r s t f = ap (λ k. listed k ms) (eqb-true n m q) ∙ r
     by false false q r s t f = f s t
-
--- ---- the rows of a block
-
-module _ (ns : List ℕ) (cut long : ℕ) (c : listed cut ns ≡ true) (l : listed long ns ≡ true) where
-  pub block-listed : (f g : ℕ) (xs : List ℕ) (e p : ℕ) → Among ns (blockRows cut long f g xs e p)
-  unfolding blockRows
-  block-listed f g xs e p = among-then ns _ _ (among-row ns _ cut _ _ c) (among-row ns _ long _ _ l)
-
-  pub last-listed : (slack : ℕ) → listed slack ns ≡ true → (xs : List ℕ) (e p : ℕ) → Among ns (lastVerdict cut long slack xs e p)
-  unfolding lastVerdict
-  last-listed slack s xs e p = among-then ns _ _ (block-listed _ _ xs e p) (among-row ns _ slack _ _ s)

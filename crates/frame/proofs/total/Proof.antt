@@ -2,7 +2,7 @@
 use mathlib.Core.Path.{ap}
 use native.Mathlib.Omega.{arith}
 use borrow.Author.Needs.{needs}
-use Rattle.wire.specs.declared.lengths.LengthField.{LengthField}
+use Rattle.length_field.specs.declared.LengthField.{LengthField}
 use Rattle.frame.proofs.total.Statement.{statement}
 use Rattle.frame.proofs.total.Tie as tie
 

@@ -19,8 +19,8 @@ check-fields-requires c κs = search needs
 check-windows-requires : tie.Need-check-windows-requires
 check-windows-requires c κs = search needs
 
-length-requires : tie.Need-length-requires
-length-requires c κs = search needs
+length-of-requires : tie.Need-length-of-requires
+length-of-requires c κs = search needs
 
 returns : tie.Need-returns
 unfolding locatorChecked checkLocatorFields checkLocatorRule locatorSize
@@ -31,7 +31,7 @@ unfolding locatorChecked checkLocatorFields checkLocatorRule locatorSize
 returns-2 c =
     let check-fields = c .before .before .check-fields in
     let locator = c .before .before .before .before .locator .given .1 in
-    rw locator (rw (c .length .ensures, c .before .check-windows .ensures, check-fields .ensures), rw (c .length .ensures) (length-most _))
+    rw locator (rw (c .length-of .ensures, c .before .check-windows .ensures, check-fields .ensures), rw (c .length-of .ensures) (length-most _))
 
 pub check-locator-spec : {M : Type 1} → statement M
 check-locator-spec =
@@ -41,6 +41,6 @@ check-locator-spec =
     enum-known-locator
     check-fields-requires
     check-windows-requires
-    length-requires
+    length-of-requires
     returns
     returns-2)

@@ -2,7 +2,7 @@
 use Rattle.link.proofs.Parts.{descriptors-inside}
 use Rattle.link_parts.proofs.descriptors.Statement.{statement}
 use Rattle.link_parts.proofs.descriptors.Tie as tie
-use Rattle.wire.proofs.SpanLaws.{span-inside}
+use Rattle.spans.proofs.SpanLaws.{span-inside}
 use borrow.Author.Needs.{needs}
 
 descriptor-span-requires : tie.Need-descriptor-span-requires

@@ -2,7 +2,7 @@
 use Rattle.link.proofs.Parts.{uri-inside}
 use Rattle.link_parts.proofs.media_uri.Statement.{statement}
 use Rattle.link_parts.proofs.media_uri.Tie as tie
-use Rattle.wire.proofs.SpanLaws.{span-inside}
+use Rattle.spans.proofs.SpanLaws.{span-inside}
 use borrow.Author.Needs.{needs}
 
 uri-span-requires : tie.Need-uri-span-requires

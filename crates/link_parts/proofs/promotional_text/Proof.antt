@@ -2,7 +2,7 @@
 use Rattle.link.proofs.Parts.{text-inside}
 use Rattle.link_parts.proofs.promotional_text.Statement.{statement}
 use Rattle.link_parts.proofs.promotional_text.Tie as tie
-use Rattle.wire.proofs.SpanLaws.{span-inside}
+use Rattle.spans.proofs.SpanLaws.{span-inside}
 use borrow.Author.Needs.{needs}
 
 text-span-requires : tie.Need-text-span-requires

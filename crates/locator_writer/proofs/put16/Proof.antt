@@ -1,7 +1,7 @@
 -- `put16` meets its contract. Assumes nothing.
 use native.Mathlib.Omega.{arith}
 use lib.ListN.{length-set}
-use Rattle.wire.proofs.Writing.{wrote2}
+use Rattle.byte_stores.proofs.Writing.{wrote2}
 use borrow.Author.Needs.{needs}
 use Rattle.locator_writer.proofs.put16.Statement.{statement}
 use Rattle.locator_writer.proofs.put16.Tie as tie

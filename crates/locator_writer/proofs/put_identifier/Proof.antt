@@ -1,6 +1,6 @@
 -- `put_identifier` meets its contract. Assumes nothing.
 use native.Mathlib.Omega.{arith}
-use Rattle.wire.proofs.Writing.{wrote0, wrote1, then}
+use Rattle.byte_stores.proofs.Writing.{wrote0, wrote1, then}
 use borrow.Author.Needs.{needs}
 use Rattle.locator_writer.proofs.put_identifier.Statement.{statement}
 use Rattle.locator_writer.proofs.put_identifier.Tie as tie

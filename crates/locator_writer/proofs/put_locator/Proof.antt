@@ -1,6 +1,6 @@
 -- `put_locator` meets its contract. Assumes nothing.
 use native.Mathlib.Omega.{arith}
-use Rattle.wire.proofs.Writing.{then}
+use Rattle.byte_stores.proofs.Writing.{then}
 use Rattle.locator.specs.Syntax.{locatorBytes, locatorLength}
 use Rattle.locator.specs.Writing.{narrowedService, narrowedWindows}
 use Rattle.locator.proofs.Sizes.{service-length, identifier-length, windows-length}

@@ -3,7 +3,7 @@ use Prim.Native.Nat.{ℕ, _%_}
 use mathlib.Core.Path.{_≡_}
 use native.Mathlib.Omega.{arith}
 use Rattle.field.specs.Fields.{tripletId, low}
-use Rattle.wire.proofs.Writing.{wrote1, then}
+use Rattle.byte_stores.proofs.Writing.{wrote1, then}
 use borrow.Author.Needs.{needs}
 use Rattle.locator_writer.proofs.put_service.Statement.{statement}
 use Rattle.locator_writer.proofs.put_service.Tie as tie

@@ -1,6 +1,6 @@
 -- `put_windows` meets its contract. Assumes nothing.
 use native.Mathlib.Omega.{arith}
-use Rattle.wire.proofs.Writing.{wrote0, wrote1}
+use Rattle.byte_stores.proofs.Writing.{wrote0, wrote1}
 use borrow.Author.Needs.{needs}
 use Rattle.locator_writer.proofs.put_windows.Statement.{statement}
 use Rattle.locator_writer.proofs.put_windows.Tie as tie

@@ -2,8 +2,9 @@
 use mathlib.Core.Path.{_≡_, ap, sym, _∙_}
 use native.Mathlib.Omega.{arith}
 use Rattle.wire.proofs.Lists.{bytes-known}
-use Rattle.rct_links.specs.declared.NumberedBody.{NumberedBody}
-use Rattle.rct_links.proofs.Numbers.{body-verdict, body-known, number-item, item-stopped}
+use Rattle.rct_bodies.specs.declared.NumberedBody.{NumberedBody}
+use Rattle.rct_bodies.proofs.Bodies.{body-verdict, body-known}
+use Rattle.rct_links.proofs.Numbers.{number-item, item-stopped}
 use borrow.Author.Needs.{needs}
 use Rattle.rct_links.proofs.read_item.Statement.{statement}
 use Rattle.rct_links.proofs.read_item.Tie as tie

@@ -4,8 +4,8 @@ use borrow.Author.Needs.{needs}
 use Rattle.rct_maker.proofs.check_making.Statement.{statement}
 use Rattle.rct_maker.proofs.check_making.Tie as tie
 
-check-requires : tie.Need-check-requires
-check-requires c κs = search needs
+check-header-requires : tie.Need-check-header-requires
+check-header-requires c κs = search needs
 
 check-loop-requires : tie.Need-check-loop-requires
 check-loop-requires c κs = search needs
@@ -22,16 +22,16 @@ first-of-requires-2 c κs = search needs
 returns : tie.Need-returns
 unfolding checkMaking
 returns c =
-    let check = c .before .before .before .before .check in
+    let check-header = c .before .before .before .before .check-header in
     let check-range = c .before .before .check-range in
     let check-loop = c .before .before .before .check-loop in
-    rw (c .first-of2 .ensures, check .ensures, c .before .first-of .ensures, check-range .ensures, check-loop .ensures)
+    rw (c .first-of2 .ensures, check-header .ensures, c .before .first-of .ensures, check-range .ensures, check-loop .ensures)
 
 pub check-making-spec : {M : Type 1} → statement M
 check-making-spec =
     tie.close
     (tie.spec
-    check-requires
+    check-header-requires
     check-loop-requires
     check-range-requires
     first-of-requires

@@ -1,13 +1,13 @@
 -- `head_bytes` meets its contract. Assumes nothing.
-use Rattle.wire.specs.Lengths.{lengthBytes}
+use Rattle.length_field.specs.Lengths.{lengthBytes}
 use Rattle.section_header.specs.Syntax.{headerBytes}
 use Rattle.rct.specs.Syntax.{headBytes}
 use borrow.Author.Needs.{needs}
 use Rattle.rct_maker.proofs.head_bytes.Statement.{statement}
 use Rattle.rct_maker.proofs.head_bytes.Tie as tie
 
-to-bytes-requires : tie.Need-to-bytes-requires
-to-bytes-requires c κs = search needs
+header-bytes-requires : tie.Need-header-bytes-requires
+header-bytes-requires c κs = search needs
 
 to-be16-requires : tie.Need-to-be16-requires
 to-be16-requires c κs = search needs
@@ -41,13 +41,13 @@ array-read-t34 c = search needs
 
 returns : tie.Need-returns
 unfolding headBytes headerBytes lengthBytes
-returns c = rw (c .before .to-bytes .ensures, c .to-be16 .ensures)
+returns c = rw (c .before .header-bytes .ensures, c .to-be16 .ensures)
 
 pub head-bytes-spec : {M : Type 1} → statement M
 head-bytes-spec =
     tie.close
     (tie.spec
-    to-bytes-requires
+    header-bytes-requires
     to-be16-requires
     array-read-t10
     array-read-t13

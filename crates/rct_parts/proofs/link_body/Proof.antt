@@ -1,7 +1,7 @@
 -- `link_body` meets its contract. Assumes nothing.
 use mathlib.Core.Path.{_≡_, ap, _∙_}
 use Rattle.wire.proofs.Lists.{bytes-known}
-use Rattle.rct_links.specs.declared.NumberedBody.{NumberedBody}
+use Rattle.rct_bodies.specs.declared.NumberedBody.{NumberedBody}
 use Rattle.rct_parts.proofs.Inside.{body-inside}
 use borrow.Author.Needs.{needs}
 use Rattle.rct_parts.proofs.link_body.Statement.{statement}

@@ -2,7 +2,7 @@
 use Prim.Native.Nat.{_+_}
 use mathlib.Core.Path.{_≡_, ap}
 use native.Mathlib.Omega.{arith}
-use Rattle.wire.specs.declared.lengths.LengthField.{LengthField}
+use Rattle.length_field.specs.declared.LengthField.{LengthField}
 use Rattle.wire.proofs.Lists.{bytes-known}
 use Rattle.rct_reader.specs.Sections.{sectionRead}
 use Rattle.rct_reader.proofs.Wholes.{loop-known}

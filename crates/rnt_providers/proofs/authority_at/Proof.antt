@@ -2,7 +2,7 @@
 use Prim.Native.Nat.{_-_}
 use mathlib.Core.Path.{_≡_, ap, _∙_}
 use native.Mathlib.Omega.{arith}
-use Rattle.wire.proofs.Blocks.{length-short}
+use Rattle.length_field.proofs.Blocks.{length-short}
 use Rattle.wire.proofs.Lists.{bytes-known}
 use Rattle.frame.specs.Syntax.{crcLength}
 use Rattle.rnt.proofs.Numbers.{authority-within}

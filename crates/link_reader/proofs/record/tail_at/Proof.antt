@@ -3,7 +3,7 @@ use Prim.Native.Nat.{_+_}
 use Rattle.link_reader.proofs.record.tail_at.Statement.{statement}
 use Rattle.link_reader.proofs.record.tail_at.Tie as tie
 use Rattle.link_reader.specs.Stages.{tailAt}
-use Rattle.wire.specs.declared.lengths.LengthField.{LengthField}
+use Rattle.length_field.specs.declared.LengthField.{LengthField}
 use borrow.Author.Needs.{needs}
 use mathlib.Core.Path.{ap}
 use native.Mathlib.Omega.{arith}

@@ -1,6 +1,6 @@
 -- `replace` meets its contract. Assumes nothing.
 use mathlib.Core.Path.{ap, _∙_}
-use Rattle.rct_edit.specs.Answers.{editedBy}
+use Rattle.edit_answers.specs.Answers.{editedBy}
 use Rattle.rct_edit.proofs.Placed.{replacing-edited}
 use borrow.Author.Needs.{needs}
 use Rattle.rct_editor.proofs.editing.replace.Statement.{statement}

@@ -1,8 +1,8 @@
 -- `loop_verdict` meets its contract. Assumes nothing.
 use mathlib.Core.Path.{_≡_, sym, ap, _∙_}
 use native.Mathlib.Omega.{arith}
-use Rattle.wire.specs.declared.lengths.LengthField.{LengthField}
-use Rattle.wire.proofs.Blocks.{last-cut, last-left}
+use Rattle.length_field.specs.declared.LengthField.{LengthField}
+use Rattle.length_field.proofs.Blocks.{last-cut, last-left}
 use borrow.Author.Needs.{needs}
 use Rattle.rct_walker.proofs.walk.loop_verdict.Statement.{statement}
 use Rattle.rct_walker.proofs.walk.loop_verdict.Tie as tie

@@ -1,8 +1,8 @@
 -- `past_length` meets its contract. Assumes nothing.
 use mathlib.Core.Path.{_≡_, sym, ap, _∙_}
 use native.Mathlib.Omega.{arith}
-use Rattle.wire.specs.declared.lengths.LengthField.{LengthField}
-use Rattle.wire.proofs.Blocks.{block-cut, block-left}
+use Rattle.length_field.specs.declared.LengthField.{LengthField}
+use Rattle.length_field.proofs.Blocks.{block-cut, block-left}
 use Rattle.wire.proofs.Verdicts.{at-reached, refused-reached}
 use borrow.Author.Needs.{needs}
 use Rattle.rct_walker.proofs.walk.past_length.Statement.{statement}

@@ -2,7 +2,7 @@
 use Prim.Native.Nat.{ℕ, _-_, _≤_}
 use mathlib.Core.Path.{_≡_, sym, ap, _∙_}
 use native.Mathlib.Omega.{arith}
-use Rattle.wire.specs.Lengths.{blockEnd}
+use Rattle.length_field.specs.Lengths.{blockEnd}
 use Rattle.wire.proofs.Verdicts.{at-reached, refused-reached, reached-at, reached-refused}
 use Rattle.rct.specs.Reading.{after, linksVerdict}
 use Rattle.rct.proofs.Links.{entry-passed}

@@ -6,6 +6,7 @@ use Rattle.wire.proofs.Verdicts.{reached-at, reached-refused}
 use Rattle.wire.specs.Runs.{placesTo}
 use Rattle.rnt.specs.Reading.{namedEnd, authorityVerdict}
 use Rattle.rnt.proofs.Names.{named-up, named-passed}
+use Rattle.rnt_heads.proofs.HeadLaws.{end-told}
 use Rattle.rnt_walker.proofs.Walks.{at-counted, refused-counted, Sought, sought-start, Walking, walk-start, walk-on, walk-stop, walk-fine, walk-number, place-on, place-end}
 use borrow.Author.Needs.{needs}
 use Rattle.rnt_walker.proofs.walk.past_authorities.Statement.{statement}
@@ -20,8 +21,11 @@ abbrev μ-loop : tie.MeasureT-loop
 loop-holds : tie.Need-loop-holds Inv-loop μ-loop
 loop-holds c = (walk-start _ _ _ _ _ (c .before .pre .0), sought-start _ _)
 
-past-named-requires : tie.Need-past-named-requires Inv-loop μ-loop
-past-named-requires c κs = (omega arith, omega (arith, c .before .loop .inv .0 .within))
+cast-past-authority : tie.Need-cast-past-authority Inv-loop μ-loop
+cast-past-authority c = search needs
+
+past-authority-requires : tie.Need-past-authority-requires Inv-loop μ-loop
+past-authority-requires c κs = search needs
 
 enum-known-step : tie.Need-enum-known-step Inv-loop μ-loop
 enum-known-step c = search needs
@@ -36,20 +40,20 @@ add-i c =
 
 loop-less : tie.Need-loop-less Inv-loop μ-loop
 loop-less c =
-    let past-named = c .before .before .before .before .past-named in
+    let past-authority = c .before .before .before .before .past-authority in
     let step = c .before .before .step in
-    let g = reached-at _ _ _ (sym (past-named .ensures) ∙ step .given .1) in
+    let g = reached-at _ _ _ (sym (rw (end-told (c .before .before .before .before .before .before .before .before .args .s .now) (c .before .before .before .before .before .before .before .before .args .e) (c .before .before .before .before .before .before .before .before .pre .1 .0)) at (past-authority .ensures)) ∙ step .given .1) in
     omega (arith, g .1)
 
 loop-again : tie.Need-loop-again Inv-loop μ-loop
 loop-again c =
     let args = c .before .before .before .before .before .before .before .before .args in
-    let past-named = c .before .before .before .before .past-named in
+    let past-authority = c .before .before .before .before .past-authority in
     let step = c .before .before .step in
     let loop = c .before .before .before .before .before .before .loop in
     let loop-test = c .before .before .before .before .before .loop-test in
     let s = args .s .now in
-    let g = reached-at _ _ _ (sym (past-named .ensures) ∙ step .given .1) in
+    let g = reached-at _ _ _ (sym (rw (end-told (c .before .before .before .before .before .before .before .before .args .s .now) (c .before .before .before .before .before .before .before .before .args .e) (c .before .before .before .before .before .before .before .before .pre .1 .0)) at (past-authority .ensures)) ∙ step .given .1) in
     let w = named-passed _ _ s _ _ (g .0) in
     (walk-on (namedEnd s) (named-up s) _ _ _ _ _ _ (loop .inv .0) (loop-test .taken) (g .0) (g .1) (omega (arith, g .1)), rw (c .found-at .ensures) (place-on (namedEnd s) (named-up s) _ _ _ _ _ _ _ (loop .inv .1) (loop-test .taken) (g .1)))
 
@@ -61,9 +65,9 @@ returns c =
     let args = c .before .before .before .before .before .before .before .args in
     let loop = c .before .before .before .before .before .loop in
     let loop-test = c .before .before .before .before .loop-test in
-    let past-named = c .before .before .before .past-named in
+    let past-authority = c .before .before .before .past-authority in
     let s = args .s .now in
-    refused-counted _ _ _ _ (walk-stop (namedEnd s) (named-up s) _ _ _ _ _ _ (loop .inv .0) (loop-test .taken) (reached-refused _ _ _ (sym (past-named .ensures) ∙ c .before .step2 .given .1)))
+    refused-counted _ _ _ _ (walk-stop (namedEnd s) (named-up s) _ _ _ _ _ _ (loop .inv .0) (loop-test .taken) (reached-refused _ _ _ (sym (rw (end-told (c .before .before .before .before .before .before .before .args .s .now) (c .before .before .before .before .before .before .before .args .e) (c .before .before .before .before .before .before .before .pre .1 .0)) at (past-authority .ensures)) ∙ c .before .step2 .given .1)))
 
 returns-2 : tie.Need-returns-2 Inv-loop μ-loop
 returns-2 c =
@@ -79,7 +83,8 @@ past-authorities-spec =
     Inv-loop
     μ-loop
     loop-holds
-    past-named-requires
+    cast-past-authority
+    past-authority-requires
     enum-known-step
     found-at-requires
     add-i

@@ -2,8 +2,8 @@
 use Prim.Native.Nat.{_-_, _≤_}
 use mathlib.Core.Path.{_≡_, sym, ap, _∙_}
 use native.Mathlib.Omega.{arith}
-use Rattle.wire.specs.Lengths.{lengthAt, blockEnd}
-use Rattle.wire.specs.declared.lengths.LengthField.{LengthField}
+use Rattle.length_field.specs.Lengths.{lengthAt, blockEnd}
+use Rattle.length_field.specs.declared.LengthField.{LengthField}
 use Rattle.frame.specs.Syntax.{crcLength}
 use Rattle.frame.specs.Reading.{payloadEnd}
 use Rattle.rnt.specs.Syntax.{commonPlace}

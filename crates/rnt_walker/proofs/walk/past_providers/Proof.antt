@@ -3,9 +3,9 @@ use Prim.Native.Nat.{_-_}
 use mathlib.Core.Path.{_≡_, sym, ap, _∙_}
 use mathlib.Core.List.{map}
 use native.Mathlib.Omega.{arith}
-use Rattle.wire.specs.Lengths.{blockEnd}
+use Rattle.length_field.specs.Lengths.{blockEnd}
 use Rattle.wire.specs.Runs.{placesTo}
-use Rattle.wire.proofs.Blocks.{block-up}
+use Rattle.length_field.proofs.Blocks.{block-up}
 use Rattle.rnt.specs.Reading.{authorityCount, authorityPlace, providerVerdict}
 use Rattle.rnt.proofs.Providers.{provider-within}
 use Rattle.rnt_walker.proofs.Walks.{passed-at, passed-refused, read-walked, refused-walked, Sought, sought-start, Walking, walk-start, walk-on, walk-stop, walk-fine, walk-number, place-on, place-end, told-on, told-end}

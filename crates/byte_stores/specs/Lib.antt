@@ -1,0 +1,2 @@
+-- Writing into a list at a place.
+pub mod Stores

@@ -1,0 +1,2 @@
+-- That each public contract leaves one outcome.
+pub mod Unique

@@ -1,0 +1,2 @@
+-- What an edit answers.
+pub mod Answers

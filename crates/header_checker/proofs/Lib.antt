@@ -1,0 +1,2 @@
+-- That the public contract leaves one outcome.
+pub mod Unique

@@ -1,0 +1,2 @@
+-- What the body of a link by number answers.
+pub mod Bodies

@@ -1,0 +1,2 @@
+-- What an entry by its place answers.
+pub mod Entries

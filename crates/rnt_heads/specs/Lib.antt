@@ -1,0 +1,2 @@
+-- Over the head of a provider, and over an authority.
+pub mod Heads

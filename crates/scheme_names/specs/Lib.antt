@@ -1,0 +1,2 @@
+-- What the numbers of how_related stand for.
+pub mod Schemes

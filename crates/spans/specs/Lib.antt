@@ -1,0 +1,2 @@
+-- A part of a slice.
+pub mod Spans

@@ -2,5 +2,6 @@
 pub mod Walks
 pub mod Loops
 pub mod Spans
+pub mod Ends
 pub mod Listed
 pub mod Unique

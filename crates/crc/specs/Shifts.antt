@@ -1,5 +1,5 @@
--- Clocks with 0 at the input. The register's laws are stated in them, and the contracts of the code's private stages (crc_words);
--- no public contract cites them. As a polynomial, the register is multiplied by x at each.
+-- Clocks with 0 at the input. The register's laws are stated in them, and so is what a word leaves (crc_register); no contract of a
+-- CRC cites them. As a polynomial, the register is multiplied by x at each.
 -- Assumes nothing.
 use Prim.Native.Nat.{ℕ, zero, suc}
 use Rattle.crc.specs.Crc.{clock}

@@ -21,8 +21,9 @@ use Rattle.crc.proofs.Xor.{digit}
 use Rattle.crc.proofs.Shift.{clock-lt, clock-xor, shifts-none, shifts-first, shifts-lt, shifts-xor, shifts-shifts, shifts-of-zero}
 use Rattle.crc.proofs.Input.{Bits, none, more, bits-bytes, number, number-lt, number-append, word-number}
 use Rattle.crc.proofs.Ending.{clocked-append, bits-append}
-use Rattle.crc_words.specs.Words.{remainder, be64}
-use Rattle.crc_words.proofs.Remainder.{value, value-lt, value-small, value-parts, value-remainder}
+use Rattle.crc_register.specs.Remainder.{remainder}
+use Rattle.crc_words.specs.Words.{be64}
+use Rattle.crc_register.proofs.Remainder.{value, value-lt, value-small, value-parts, value-remainder}
 
 -- ---- a register r, and the bits apart
 

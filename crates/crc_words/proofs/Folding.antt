@@ -12,8 +12,9 @@ use Rattle.crc.specs.Crc.{clock}
 use Rattle.crc.specs.Shifts.{shift, shifts}
 use Rattle.crc.proofs.Xor.{xor-assoc, xor-4}
 use Rattle.crc.proofs.Shift.{shifts-none, shifts-lt, shifts-of-zero, shifts-shifts, shifts-xor}
-use Rattle.crc_words.specs.Words.{remainder, after}
-use Rattle.crc_words.proofs.Remainder.{remainder-lt, remainder-small, remainder-xor, above, below, above-lt, above-low, above-none, below-lt, moved}
+use Rattle.crc_register.specs.Remainder.{remainder}
+use Rattle.crc_words.specs.Words.{after}
+use Rattle.crc_register.proofs.Remainder.{remainder-lt, remainder-small, remainder-xor, above, below, above-lt, above-low, above-none, below-lt, moved}
 use Rattle.crc_words.proofs.Powers.{powers, raised, powers-append, same-powers}
 use Rattle.crc_words.proofs.Words.{Words, span, next-lt, after-lt, after-xor, first-xor}
 

@@ -12,8 +12,9 @@ use Rattle.crc.specs.Crc.{clocked, bitsOf, start, crcOf}
 use Rattle.crc.specs.Shifts.{shifts}
 use Rattle.crc.proofs.Xor.{xor-assoc}
 use Rattle.crc.proofs.Shift.{shifts-lt, shifts-shifts, shifts-xor}
-use Rattle.crc_words.specs.Words.{remainder, after, be64, due}
-use Rattle.crc_words.proofs.Remainder.{remainder-lt, remainder-small, remainder-xor, above, below, above-lt, moved}
+use Rattle.crc_register.specs.Remainder.{remainder}
+use Rattle.crc_words.specs.Words.{after, be64, due}
+use Rattle.crc_register.proofs.Remainder.{remainder-lt, remainder-small, remainder-xor, above, below, above-lt, moved}
 use Rattle.crc_words.proofs.Words.{Words, span, span-length, next-lt, after-lt, after-append, after-xor}
 use Rattle.crc_words.proofs.Bits.{from-zero, be64-lt, word-read, part-read}
 

@@ -9,7 +9,7 @@ use lib.Bits.{bitXor, xor-lt}
 use Rattle.crc.specs.Shifts.{shift, shifts}
 use Rattle.crc.proofs.Xor.{digit, xor-assoc, xor-4}
 use Rattle.crc.proofs.Shift.{shift-lt, shift-xor, shift-low, shifts-next, shifts-first, shifts-lt, shifts-xor, shifts-of-zero}
-use Rattle.crc_words.proofs.Remainder.{register-ind}
+use Rattle.crc_register.proofs.Remainder.{register-ind}
 
 -- v times x^k, for each k of a list, added up
 abbrev pub powers : List ℕ → ℕ → ℕ

@@ -7,30 +7,17 @@ use native.Mathlib.Nat.{add-mul, mul-assoc, mod-add-div, add-mul-mod-self-left}
 use native.Mathlib.Omega.{arith}
 use lib.Dec.{lit<}
 use lib.Pow.{pow-add}
-use lib.Bits.{bitXor, xor-lt, xor-zero-r}
+use lib.Bits.{bitXor, xor-lt}
 use lib.ListN.{length, length-append}
 use Rattle.wire.specs.Lists.{Bytes}
-use Rattle.crc.specs.Crc.{clocked, bits8, start, crcOf}
+use Rattle.crc.specs.Crc.{start, crcOf}
 use Rattle.crc.specs.Shifts.{shifts}
-use Rattle.crc.proofs.Shift.{shifts-lt, shifts-of-zero, shifts-shifts}
-use Rattle.crc.proofs.Input.{byte-input}
-use Rattle.crc_words.specs.Words.{remainder, after, be64, due}
-use Rattle.crc_words.proofs.Remainder.{remainder-lt}
+use Rattle.crc.proofs.Shift.{shifts-of-zero}
+use Rattle.crc_register.specs.Remainder.{remainder}
+use Rattle.crc_words.specs.Words.{after, be64, due}
+use Rattle.crc_register.proofs.Remainder.{remainder-lt}
 use Rattle.crc_words.proofs.Words.{Words, words-more, next-lt}
 use Rattle.crc_words.proofs.Message.{due-same, one-more, none-left, taken-in, begun}
-
--- ---- the register: four bytes 0
-
-idle-byte : (r : ℕ) → r < 2 ^ 32 → clocked r (bits8 0) ≡ shifts 8 r
-idle-byte r h = byte-input r 0 h (lit< tt) ∙ ap (shifts 8) (xor-zero-r r)
-
-pub idle-four : (r a b c d : ℕ) → r < 2 ^ 32 → a ≡ clocked r (bits8 0) → b ≡ clocked a (bits8 0) → c ≡ clocked b (bits8 0)
-    → d ≡ clocked c (bits8 0) → d ≡ shifts 32 r
-idle-four r a b c d h ea eb ec ed = next 24 (next 16 (next 8 (ea ∙ idle-byte r h) eb) ec) ed
-  where
-    next : (n : ℕ) {x y : ℕ} → x ≡ shifts n r → y ≡ clocked x (bits8 0) → y ≡ shifts (8 + n) r
-    next n ex ey =
-        ey ∙ ap (λ (x : ℕ). clocked x (bits8 0)) ex ∙ idle-byte (shifts n r) (shifts-lt n r h) ∙ shifts-shifts 8 n r
 
 -- ---- the first bytes
 

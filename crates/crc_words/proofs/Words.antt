@@ -10,8 +10,9 @@ use lib.ListN.{length}
 use Rattle.crc.specs.Shifts.{shifts}
 use Rattle.crc.proofs.Xor.{xor-assoc}
 use Rattle.crc.proofs.Shift.{shifts-none, shifts-lt, shifts-xor, shifts-shifts}
-use Rattle.crc_words.specs.Words.{remainder, after}
-use Rattle.crc_words.proofs.Remainder.{remainder-lt, remainder-xor}
+use Rattle.crc_register.specs.Remainder.{remainder}
+use Rattle.crc_words.specs.Words.{after}
+use Rattle.crc_register.proofs.Remainder.{remainder-lt, remainder-xor}
 
 -- each has 64 digits
 abbrev pub Words : List ℕ → Type 0

@@ -1,19 +1,16 @@
 -- Words of 64 digits, highest first, each standing for the polynomial with these coefficients; what a polynomial leaves on
 -- division by the CRC's is a register. Only the private stages' contracts cite these.
 -- Assumes nothing.
-use Prim.Native.Nat.{ℕ, _+_, _-_, _*_, _/_, _%_, _^_}
+use Prim.Native.Nat.{ℕ, _+_, _-_, _*_, _^_}
 use mathlib.Core.List.{List, [], _∷_}
 use lib.Bits.{bitXor}
 use lib.ListN.{length, drop}
 use Rattle.wire.specs.Numbers.{be32}
 use Rattle.crc.specs.Crc.{clocked, bitsOf}
 use Rattle.crc.specs.Shifts.{shifts}
+use Rattle.crc_register.specs.Remainder.{remainder}
 use Rattle.crc_words.specs.declared.folds.NextFive.{NextFive}
 use Rattle.crc_words.specs.declared.Reached.{Reached}
-
--- what a word leaves
-unfoldable pub remainder : ℕ → ℕ
-remainder w = bitXor (shifts 32 (w / 2 ^ 32)) (w % 2 ^ 32)
 
 -- what words leave behind h, which is what was left before them
 abbrev pub after : ℕ → List ℕ → ℕ

@@ -4,8 +4,9 @@ ghost use mathlib.Core.Path.{_≡_};
 ghost use Prim.Native.Nat.{_^_, _<_};
 ghost use mathlib.Core.List.{[], _∷_};
 ghost use Rattle.crc.specs.Shifts.{shifts};
-ghost use Rattle.crc_words.specs.Words.{remainder, after};
-use crate::register::left_of;
+ghost use Rattle.crc_register.specs.Remainder.{remainder};
+ghost use Rattle.crc_words.specs.Words.{after};
+use crc_register::left_of;
 
 // What is to be added to the next two words.
 pub(crate) struct NextTwo {

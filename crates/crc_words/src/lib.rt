@@ -11,13 +11,12 @@ use crate::folds::NextFive;
 use crate::folds::fold_five;
 use crate::folds::fold_last;
 use crate::folds::fold_two;
-use crate::register::HALF;
+use crc_register::HALF;
 
 mod folds;
-mod register;
 
 // The register's start, as what is added to a message's first eight bytes.
-const FIRST: u64 = (register::START as u64) << 32;
+const FIRST: u64 = (crc_register::START as u64) << 32;
 
 // The 32-bit number at `i`.
 fn half_at(s: &[u8], i: usize) -> u32
@@ -136,7 +135,7 @@ pub fn crc32(s: &[u8]) -> u32
     ensures { λ r. ⌜ r ≡ crcOf (now (s .entry)) ⌝ }
 {
     if s.len() <= 8 {
-        return register::by_bytes(s);
+        return crc_register::by_bytes(s);
     }
     let m = begin(s);
     if s.len() <= 40 {

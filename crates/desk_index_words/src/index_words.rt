@@ -90,11 +90,11 @@ fn put_sets(sets: LinkSets) {
     say(ICON);
     put_set(icon);
     say(COUNTS);
-    put_number(uri.count());
+    put_number(number_count::count(uri));
     say(COMMA);
-    put_number(locator.count());
+    put_number(number_count::count(locator));
     say(COMMA);
-    put_number(icon.count());
+    put_number(number_count::count(icon));
 }
 
 pub fn put_index(index: RctIndex) {

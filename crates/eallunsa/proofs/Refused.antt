@@ -31,12 +31,12 @@ use Rattle.rnt_reader.specs.declared.RntRead.the-variants as read
 use Rattle.rnt_providers.specs.Providers.{numberedProvider, numberedAuthority}
 use Rattle.rnt_providers.specs.declared.ProviderRead.the-variants as provider
 use Rattle.rnt_providers.specs.declared.AuthorityRead.the-variants as authority
-use Rattle.flat_answers.specs.Refusals.{refusalOf}
-use Rattle.flat_answers.specs.Sections.{rctAnswer, rntNumbers, rntAnswer}
+use Rattle.flat_refusal.specs.Refusals.{refusalOf}
+use Rattle.flat_sections.specs.Sections.{rctAnswer, rntNumbers, rntAnswer}
 use Rattle.flat_answers.specs.Links.{linkAnswer, itemAnswer, stepAnswer, entryAnswer}
 use Rattle.flat_answers.specs.Edits.{editAnswer, indexAnswer, indexEditAnswer}
 use Rattle.flat_answers.specs.Providers.{providerAnswer, providerFoundAnswer, authorityAnswer, authorityFoundAnswer}
-use Rattle.flat_answers.proofs.Numbers.{only-fine-is-0}
+use Rattle.flat_refusal.proofs.Numbers.{only-fine-is-0}
 use Rattle.refusals.proofs.Given.{Given, OnList, never, never-refused}
 use Rattle.refusals.proofs.Links.{item-from-given}
 use Rattle.refusals.proofs.Rct as rct-given

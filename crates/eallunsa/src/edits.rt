@@ -3,11 +3,11 @@ ghost use mathlib.Core.Path.{_≡_};
 ghost use Rattle.rct_edit.specs.Answers.{answer};
 ghost use Rattle.rct_edit.specs.Calls.{making, appending, replacing};
 ghost use Rattle.flat_link.specs.Links.{infoOf};
-ghost use Rattle.flat_answers.specs.Sections.{rctHeaderOf};
+ghost use Rattle.flat_sections.specs.Sections.{rctHeaderOf};
 ghost use Rattle.flat_answers.specs.Edits.{editAnswer};
 use flat_answers::edits::EditAnswer;
-use flat_answers::sections::FlatRctHeader;
 use flat_link::FlatLink;
+use flat_sections::FlatRctHeader;
 use link::Range;
 
 // Makes a section with no links.

@@ -48,7 +48,7 @@ pub extern "C" fn eallunsa_set_has(set: NumberSet, number: usize) -> u8
 pub extern "C" fn eallunsa_set_count(set: NumberSet) -> usize
     ensures { λ r. ⌜ r ≡ trues (members set) ⌝ }
 {
-    set.count()
+    number_count::count(set)
 }
 
 // The two halves of an edit with an index, one after the other: the record of the link is gone when the index is brought up,

@@ -5,13 +5,13 @@ ghost use Rattle.rct.specs.Reading.{plain, checked};
 ghost use Rattle.rct_entries.specs.Entries.{entryRead};
 ghost use Rattle.rct_reader.specs.Sections.{sectionRead};
 ghost use Rattle.rct_links.specs.Links.{numberedLink, numberedItem};
-ghost use Rattle.flat_answers.specs.Sections.{rctAnswer};
+ghost use Rattle.flat_sections.specs.Sections.{rctAnswer};
 ghost use Rattle.flat_answers.specs.Links.{linkAnswer, itemAnswer, stepAnswer, entryAnswer};
 use flat_answers::links::EntryAnswer;
 use flat_answers::links::ItemAnswer;
 use flat_answers::links::LinkAnswer;
 use flat_answers::links::StepAnswer;
-use flat_answers::sections::RctAnswer;
+use flat_sections::RctAnswer;
 
 // The plain reading.
 #[no_mangle]

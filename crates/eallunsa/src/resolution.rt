@@ -4,13 +4,13 @@ ghost use Rattle.rnt.specs.Reading.{plain, checked};
 ghost use Rattle.rnt_entries.specs.Entries.{providerFrom, authorityFrom};
 ghost use Rattle.rnt_reader.specs.Sections.{sectionRead};
 ghost use Rattle.rnt_providers.specs.Providers.{numberedProvider, numberedAuthority};
-ghost use Rattle.flat_answers.specs.Sections.{rntAnswer};
+ghost use Rattle.flat_sections.specs.Sections.{rntAnswer};
 ghost use Rattle.flat_answers.specs.Providers.{providerAnswer, providerFoundAnswer, authorityAnswer, authorityFoundAnswer};
 use flat_answers::providers::AuthorityAnswer;
 use flat_answers::providers::AuthorityFoundAnswer;
 use flat_answers::providers::ProviderAnswer;
 use flat_answers::providers::ProviderFoundAnswer;
-use flat_answers::sections::RntAnswer;
+use flat_sections::RntAnswer;
 
 // The plain reading.
 #[no_mangle]

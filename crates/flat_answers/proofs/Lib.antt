@@ -1,6 +1,3 @@
--- That a header's numbers stand for it, that each number stands under its name, what number 0 says, and that each contract leaves one outcome.
-pub mod Back
-pub mod Names
-pub mod Numbers
+-- What each answer tells, and that each contract leaves one outcome.
 pub mod Told
 pub mod Unique

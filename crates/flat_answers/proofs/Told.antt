@@ -21,7 +21,7 @@ use Rattle.edit_answers.specs.declared.Edited.{Edited}
 use Rattle.rct_index.specs.declared.IndexBuilt.{IndexBuilt}
 use Rattle.rct_index.specs.declared.IndexEdited.{IndexEdited}
 use Rattle.flat_link.specs.Links.{fieldsFlat, linkFlat}
-use Rattle.flat_answers.specs.Refusals.{refusalOf}
+use Rattle.flat_refusal.specs.Refusals.{refusalOf}
 use Rattle.flat_answers.specs.Links.{linkAnswer, itemAnswer, stepAnswer, entryAnswer}
 use Rattle.flat_answers.specs.Edits.{editAnswer, indexAnswer, indexEditAnswer}
 use Rattle.flat_answers.specs.Providers.{providerAnswer, providerFoundAnswer, authorityAnswer, authorityFoundAnswer}

@@ -2,22 +2,6 @@
 -- Assumes nothing.
 use mathlib.Core.Path.{refl}
 use Rattle.wire.proofs.One.{One, both}
-use Rattle.flat_answers.proofs.fine.Kinds as fine-kinds
-use Rattle.flat_answers.proofs.fine.Reads as fine-reads
-use Rattle.flat_answers.proofs.refusal_of.Kinds as refusal-of-kinds
-use Rattle.flat_answers.proofs.refusal_of.Reads as refusal-of-reads
-use Rattle.flat_answers.proofs.sections.FlatHeader.of.Kinds as header-of-kinds
-use Rattle.flat_answers.proofs.sections.FlatHeader.of.Reads as header-of-reads
-use Rattle.flat_answers.proofs.sections.FlatHeader.header.Kinds as header-kinds
-use Rattle.flat_answers.proofs.sections.FlatHeader.header.Reads as header-reads
-use Rattle.flat_answers.proofs.sections.FlatRctHeader.of.Kinds as rct-header-of-kinds
-use Rattle.flat_answers.proofs.sections.FlatRctHeader.of.Reads as rct-header-of-reads
-use Rattle.flat_answers.proofs.sections.FlatRctHeader.header.Kinds as rct-header-kinds
-use Rattle.flat_answers.proofs.sections.FlatRctHeader.header.Reads as rct-header-reads
-use Rattle.flat_answers.proofs.sections.RctAnswer.of.Kinds as rct-kinds
-use Rattle.flat_answers.proofs.sections.RctAnswer.of.Reads as rct-reads
-use Rattle.flat_answers.proofs.sections.RntAnswer.of.Kinds as rnt-kinds
-use Rattle.flat_answers.proofs.sections.RntAnswer.of.Reads as rnt-reads
 use Rattle.flat_answers.proofs.links.LinkAnswer.of.Kinds as link-kinds
 use Rattle.flat_answers.proofs.links.LinkAnswer.of.Reads as link-reads
 use Rattle.flat_answers.proofs.links.ItemAnswer.of.Kinds as item-kinds
@@ -40,30 +24,6 @@ use Rattle.flat_answers.proofs.providers.AuthorityAnswer.of.Kinds as au
 use Rattle.flat_answers.proofs.providers.AuthorityAnswer.of.Reads as authority-reads
 use Rattle.flat_answers.proofs.providers.AuthorityFoundAnswer.of.Kinds as authority-found-kinds
 use Rattle.flat_answers.proofs.providers.AuthorityFoundAnswer.of.Reads as authority-found-reads
-
-pub fine-one : One fine-kinds.ps fine-kinds.r fine-reads.Asked fine-reads.Learnt
-fine-one = record { total = λ κs a. tt; one = λ κs a x y v w p q. (both p q, refl) }
-
-pub refusal-of-one : One refusal-of-kinds.ps refusal-of-kinds.r refusal-of-reads.Asked refusal-of-reads.Learnt
-refusal-of-one = record { total = λ κs a. tt; one = λ κs a x y v w p q. (both p q, refl) }
-
-pub header-of-one : One header-of-kinds.ps header-of-kinds.r header-of-reads.Asked header-of-reads.Learnt
-header-of-one = record { total = λ κs a. tt; one = λ κs a x y v w p q. (both p q, refl) }
-
-pub header-one : One header-kinds.ps header-kinds.r header-reads.Asked header-reads.Learnt
-header-one = record { total = λ κs a. tt; one = λ κs a x y v w p q. (both p q, refl) }
-
-pub rct-header-of-one : One rct-header-of-kinds.ps rct-header-of-kinds.r rct-header-of-reads.Asked rct-header-of-reads.Learnt
-rct-header-of-one = record { total = λ κs a. tt; one = λ κs a x y v w p q. (both p q, refl) }
-
-pub rct-header-one : One rct-header-kinds.ps rct-header-kinds.r rct-header-reads.Asked rct-header-reads.Learnt
-rct-header-one = record { total = λ κs a. tt; one = λ κs a x y v w p q. (both p q, refl) }
-
-pub rct-one : One rct-kinds.ps rct-kinds.r rct-reads.Asked rct-reads.Learnt
-rct-one = record { total = λ κs a. tt; one = λ κs a x y v w p q. (both p q, refl) }
-
-pub rnt-one : One rnt-kinds.ps rnt-kinds.r rnt-reads.Asked rnt-reads.Learnt
-rnt-one = record { total = λ κs a. tt; one = λ κs a x y v w p q. (both p q, refl) }
 
 pub link-one : One link-kinds.ps link-kinds.r link-reads.Asked link-reads.Learnt
 link-one = record { total = λ κs a. tt; one = λ κs a x y v w p q. (both p q, refl) }

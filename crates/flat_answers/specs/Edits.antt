@@ -3,7 +3,7 @@
 use Rattle.edit_answers.specs.declared.Edited.{Edited}
 use Rattle.rct_index.specs.declared.IndexBuilt.{IndexBuilt}
 use Rattle.rct_index.specs.declared.IndexEdited.{IndexEdited}
-use Rattle.flat_answers.specs.Refusals.{refusalOf}
+use Rattle.flat_refusal.specs.Refusals.{refusalOf}
 use Rattle.flat_answers.specs.declared.edits.EditAnswer.{EditAnswer}
 use Rattle.flat_answers.specs.declared.edits.IndexAnswer.{IndexAnswer}
 use Rattle.flat_answers.specs.declared.edits.IndexEditAnswer.{IndexEditAnswer}

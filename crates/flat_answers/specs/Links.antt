@@ -9,7 +9,7 @@ use Rattle.link.specs.declared.reading.ItemStep.the-variants as step
 use Rattle.rct_entries.specs.declared.EntryRead.{EntryRead}
 use Rattle.rct_entries.specs.declared.EntryRead.the-variants as entry
 use Rattle.flat_link.specs.Links.{fieldsFlat, linkFlat}
-use Rattle.flat_answers.specs.Refusals.{noRefusal, refusalOf}
+use Rattle.flat_refusal.specs.Refusals.{noRefusal, refusalOf}
 use Rattle.flat_answers.specs.declared.links.LinkAnswer.{LinkAnswer}
 use Rattle.flat_answers.specs.declared.links.ItemAnswer.{ItemAnswer}
 use Rattle.flat_answers.specs.declared.links.StepAnswer.{StepAnswer}

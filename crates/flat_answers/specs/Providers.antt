@@ -11,7 +11,7 @@ use Rattle.rnt_providers.specs.declared.ProviderRead.{ProviderRead}
 use Rattle.rnt_providers.specs.declared.ProviderRead.the-variants as provider
 use Rattle.rnt_providers.specs.declared.AuthorityRead.{AuthorityRead}
 use Rattle.rnt_providers.specs.declared.AuthorityRead.the-variants as authority
-use Rattle.flat_answers.specs.Refusals.{noRefusal}
+use Rattle.flat_refusal.specs.Refusals.{noRefusal}
 use Rattle.flat_answers.specs.declared.providers.ProviderAnswer.{ProviderAnswer}
 use Rattle.flat_answers.specs.declared.providers.ProviderFoundAnswer.{ProviderFoundAnswer}
 use Rattle.flat_answers.specs.declared.providers.AuthorityAnswer.{AuthorityAnswer}

@@ -1,8 +1,8 @@
 // Edits, and the index beside a section.
 ghost use mathlib.Core.Path.{_≡_};
 ghost use Rattle.flat_answers.specs.Edits.{editAnswer, indexAnswer, indexEditAnswer};
-use crate::refusal_of;
 use edit_answers::Edited;
+use flat_refusal::refusal_of;
 use rct_index::IndexBuilt;
 use rct_index::IndexEdited;
 use rct_index::RctIndex;

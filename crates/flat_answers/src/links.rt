@@ -1,10 +1,10 @@
 // Links and items, by number and by place.
 ghost use mathlib.Core.Path.{_≡_};
 ghost use Rattle.flat_answers.specs.Links.{linkAnswer, itemAnswer, stepAnswer, entryAnswer};
-use crate::fine;
-use crate::refusal_of;
 use flat_link::FlatFields;
 use flat_link::FlatLink;
+use flat_refusal::fine;
+use flat_refusal::refusal_of;
 use link::LinkFields;
 use link::LinkItem;
 use link::reading::ItemRead;

@@ -2,7 +2,7 @@
 ghost use mathlib.Core.Path.{_≡_};
 ghost use Rattle.flat_answers.specs.Providers.{noProvider, noAuthority};
 ghost use Rattle.flat_answers.specs.Providers.{providerAnswer, providerFoundAnswer, authorityAnswer, authorityFoundAnswer};
-use crate::fine;
+use flat_refusal::fine;
 use rnt::CridAuthority;
 use rnt::ResolutionProvider;
 use rnt_entries::AuthorityFound;

@@ -2,16 +2,8 @@
 -- Assumes nothing.
 use Prim.Native.Nat.{ℕ}
 use mathlib.Core.Path.{_≡_, refl, ap}
-use mathlib.Core.Bool.{Bool, true, false}
 use mathlib.Core.List.{List}
 use Rattle.wire.specs.Choice.{bit}
-use Rattle.locator.specs.declared.DvbBinaryLocator.{DvbBinaryLocator}
-use Rattle.locator.specs.declared.DvbLocatorService.{DvbLocatorService}
-use Rattle.locator.specs.declared.DvbLocatorService.the-variants.{Triplet, Full}
-use Rattle.locator.specs.declared.DvbLocatorIdentifier.{DvbLocatorIdentifier}
-use Rattle.locator.specs.declared.DvbLocatorIdentifier.the-variants.{None, EventId, TvaIdEit, TvaIdPes}
-use Rattle.locator.specs.declared.DvbLocatorWindows.{DvbLocatorWindows}
-use Rattle.locator.specs.declared.DvbLocatorWindows.the-variants.{Absent, Present}
 use Rattle.link.specs.Syntax.{Link}
 use Rattle.link.specs.Records.{linkOf}
 use Rattle.link.specs.declared.MediaUri.{MediaUri}
@@ -21,32 +13,9 @@ use Rattle.link.specs.declared.LinkLocator.the-variants as place
 use Rattle.link.specs.declared.LinkFields.{LinkFields}
 use Rattle.link.specs.declared.LinkInfo.{LinkInfo}
 use Rattle.link_draft.specs.Checks.{uriHere, locatorHere}
-use Rattle.flat_link.specs.Flags.{isSet}
-use Rattle.flat_link.specs.Locators.{serviceFlat, serviceOf, identifierFlat, identifierOf, windowsFlat, windowsOf, locatorFlat, locatorOf}
+use Rattle.flat_locator.proofs.Back.{flag-back, locator-back}
 use Rattle.flat_link.specs.Links.{uriRange, uriOf, placeFlat, placeOf, fieldsFlat, fieldsOf, linkFlat, infoOf}
 use Rattle.flat_link.specs.declared.FlatLink.{FlatLink}
-
-pub flag-back : (b : Bool) → isSet (bit b) ≡ b
-flag-back true = refl
-flag-back false = refl
-
-pub service-back : (s : DvbLocatorService) → serviceOf (serviceFlat s) ≡ s
-service-back (Triplet t) = refl
-service-back (Full r ts on sv) = refl
-
-pub identifier-back : (i : DvbLocatorIdentifier) → identifierOf (identifierFlat i) ≡ i
-identifier-back None = refl
-identifier-back (EventId e) = refl
-identifier-back (TvaIdEit t) = refl
-identifier-back (TvaIdPes t c) = refl
-
-pub windows-back : (w : DvbLocatorWindows) → windowsOf (windowsFlat w) ≡ w
-windows-back Absent = refl
-windows-back (Present e a) = refl
-
-pub locator-back : (l : DvbBinaryLocator) → locatorOf (locatorFlat l) ≡ l
-unfolding locatorFlat locatorOf
-locator-back l = rw (flag-back (l .«scheduled_time_reliability»), service-back (l .service), identifier-back (l .identifier), windows-back (l .windows)) refl
 
 pub uri-back : (u : MediaUri) → uriOf (bit (uriHere u)) (uriRange u) ≡ u
 uri-back uri.Absent = refl

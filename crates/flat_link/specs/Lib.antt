@@ -1,4 +1,2 @@
 -- A link's record as numbers alone, and the record that such numbers stand for.
-pub mod Flags
-pub mod Locators
 pub mod Links

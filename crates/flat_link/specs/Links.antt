@@ -17,9 +17,9 @@ use Rattle.link.specs.declared.LinkLocator.the-variants as place
 use Rattle.link.specs.declared.LinkFields.{LinkFields}
 use Rattle.link.specs.declared.LinkInfo.{LinkInfo}
 use Rattle.link_draft.specs.Checks.{uriHere, locatorHere}
-use Rattle.flat_link.specs.Flags.{isSet}
-use Rattle.flat_link.specs.Locators.{locatorFlat, locatorOf}
-use Rattle.flat_link.specs.declared.locators.FlatLocator.{FlatLocator}
+use Rattle.flat_locator.specs.Flags.{isSet}
+use Rattle.flat_locator.specs.Locators.{locatorFlat, locatorOf}
+use Rattle.flat_locator.specs.declared.FlatLocator.{FlatLocator}
 use Rattle.flat_link.specs.declared.FlatFields.{FlatFields}
 use Rattle.flat_link.specs.declared.FlatLink.{FlatLink}
 

@@ -1,9 +1,8 @@
-// A link's record as numbers alone, for a caller that has no enums. What may be absent stands beside a number: 0 says absent,
-// anything else present. A record that is made here says 1, and has zeros in what is absent.
+// A link's record as numbers alone, for a caller that has no enums; what may be absent is told as in flat_locator.
 ghost use mathlib.Core.Path.{_≡_};
-ghost use Rattle.flat_link.specs.Flags.{isSet};
 ghost use Rattle.flat_link.specs.Links.{uriRange, uriOf, noLocator, placeFlat, placeOf, fieldsFlat, fieldsOf, linkFlat, infoOf};
-use crate::locators::FlatLocator;
+use flat_locator::FlatLocator;
+use flat_locator::is_set;
 use link::LinkFields;
 use link::LinkInfo;
 use link::LinkItem;
@@ -14,8 +13,6 @@ use locator::DvbBinaryLocator;
 use locator::DvbLocatorIdentifier;
 use locator::DvbLocatorService;
 use locator::DvbLocatorWindows;
-
-pub mod locators;
 
 // The fields of a link's record, all but the items themselves.
 #[repr(C)]
@@ -43,13 +40,6 @@ pub struct FlatFields {
 pub struct FlatLink {
     pub fields: FlatFields,
     pub items: [LinkItem; LinkInfo::MOST_ITEMS],
-}
-
-// A number as a flag: 0 is no, anything else is yes.
-pub fn is_set(x: u8) -> bool
-    ensures { λ r. ⌜ r ≡ isSet x ⌝ }
-{
-    0 < x
 }
 
 fn uri_range(uri: MediaUri) -> Range

@@ -68,10 +68,10 @@ pub item-listed : (xs : List ℕ) (p : ℕ) → Among stepReading (itemVerdict x
 unfolding itemVerdict
 item-listed xs p = among-then stepReading _ _ (among-row stepReading _ itemCut _ _ refl) (among-row stepReading _ textCut _ _ refl)
 
-items-listed : (n : ℕ) (xs : List ℕ) (p : ℕ) → Among bodyReading (itemsVerdict n xs p)
+pub items-listed : (n : ℕ) (xs : List ℕ) (p : ℕ) → Among stepReading (itemsVerdict n xs p)
 unfolding itemsVerdict
-items-listed zero xs p = among-fine bodyReading
-items-listed (suc n) xs p = among-then bodyReading _ _ (among-more stepReading bodyReading _ refl (item-listed xs p)) (items-listed n xs (itemEnd xs p))
+items-listed zero xs p = among-fine stepReading
+items-listed (suc n) xs p = among-then stepReading _ _ (item-listed xs p) (items-listed n xs (itemEnd xs p))
 
 pub body-listed : (xs : List ℕ) → Among bodyReading (bodyVerdict xs)
 unfolding bodyVerdict frontVerdict uriVerdict locatorRows countVerdict restVerdict
@@ -80,7 +80,7 @@ body-listed xs =
     (among-then bodyReading _ _ (row _ bodyTooShort _ _ refl)
     (among-then bodyReading _ _ (part-listed (uriDue (typeAt xs)) _ (among-then bodyReading _ _ (row _ uriLengthCut _ _ refl) (row _ uriCut _ _ refl)))
     (among-then bodyReading _ _ (part-listed (locatorDue (typeAt xs)) _ (among-then bodyReading _ _ (row _ noLocator _ _ refl) (said-listed (drop (uriEnd xs) xs)))) (row _ itemCountCut _ _ refl))))
-    (among-then bodyReading _ _ (items-listed (itemCount xs) xs (itemsPlace xs))
+    (among-then bodyReading _ _ (among-more stepReading bodyReading _ refl (items-listed (itemCount xs) xs (itemsPlace xs)))
     (last-listed bodyReading iconCut descriptorsTooLong refl refl linkSlack refl xs (length xs) (tailPlace xs)))
   where
     row : (b : Bool) (n f g : ℕ) → listed n bodyReading ≡ true → Among bodyReading (refuse b n f g)

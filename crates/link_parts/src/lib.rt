@@ -7,7 +7,7 @@ ghost use Rattle.link.specs.Parts.{uriSpan, textSpan, descriptorSpan};
 use length_field::LengthField;
 use link::LinkFields;
 use link::reading::ItemRead;
-use link_reader::BodyPlaces;
+use link_walker::BodyPlaces;
 use spans::Span;
 
 // Where a part is that is not there: no bytes, at the body's start.
@@ -20,7 +20,7 @@ const NOWHERE: Span = Span {
 fn uri_span(s: &[u8]) -> Span
     ensures { λ r. ⌜ r ≡ uriSpan (now (s .entry)) ⌝ }
 {
-    let places = link_reader::body_places(s);
+    let places = link_walker::body_places(s);
     match places {
         BodyPlaces::At {
             uri_end,
@@ -59,7 +59,7 @@ fn text_span(s: &[u8], number: usize) -> Span
 fn descriptor_span(s: &[u8]) -> Span
     ensures { λ r. ⌜ r ≡ descriptorSpan (now (s .entry)) ⌝ }
 {
-    let places = link_reader::body_places(s);
+    let places = link_walker::body_places(s);
     match places {
         BodyPlaces::At {
             uri_end: _,

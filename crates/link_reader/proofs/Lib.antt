@@ -1,7 +1,4 @@
--- The laws of those answers, and that each public contract leaves one outcome.
-pub mod Places
-pub mod Stages
+-- What a turn and a return of the code know, and that each public contract leaves one outcome.
 pub mod Numbered
-pub mod Fields
 pub mod Filled
 pub mod Unique

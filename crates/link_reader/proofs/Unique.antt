@@ -2,27 +2,12 @@
 -- Assumes nothing.
 use mathlib.Core.Path.{refl}
 use Rattle.wire.proofs.One.{One, both}
-use Rattle.link_reader.proofs.body_places.Kinds as body-places-kinds
-use Rattle.link_reader.proofs.body_places.Reads as body-places-reads
-use Rattle.link_reader.proofs.check_body.Kinds as check-body-kinds
-use Rattle.link_reader.proofs.check_body.Reads as check-body-reads
-use Rattle.link_reader.proofs.read_fields.Kinds as read-fields-kinds
-use Rattle.link_reader.proofs.read_fields.Reads as read-fields-reads
 use Rattle.link_reader.proofs.read_link.Kinds as read-link-kinds
 use Rattle.link_reader.proofs.read_link.Reads as read-link-reads
 use Rattle.link_reader.proofs.read_item.Kinds as read-item-kinds
 use Rattle.link_reader.proofs.read_item.Reads as read-item-reads
 use Rattle.link_reader.proofs.item_from.Kinds as item-from-kinds
 use Rattle.link_reader.proofs.item_from.Reads as item-from-reads
-
-pub body-places-one : One body-places-kinds.ps body-places-kinds.r body-places-reads.Asked body-places-reads.Learnt
-body-places-one = record { total = λ κs a. tt; one = λ κs a x y v w p q. (both p q, refl) }
-
-pub check-body-one : One check-body-kinds.ps check-body-kinds.r check-body-reads.Asked check-body-reads.Learnt
-check-body-one = record { total = λ κs a. tt; one = λ κs a x y v w p q. (both p q, refl) }
-
-pub read-fields-one : One read-fields-kinds.ps read-fields-kinds.r read-fields-reads.Asked read-fields-reads.Learnt
-read-fields-one = record { total = λ κs a. tt; one = λ κs a x y v w p q. (both p q, refl) }
 
 pub read-link-one : One read-link-kinds.ps read-link-kinds.r read-link-reads.Asked read-link-reads.Learnt
 read-link-one = record { total = λ κs a. tt; one = λ κs a x y v w p q. (both p q, refl) }

@@ -1,12 +1,11 @@
 // A set of the numbers 0 to 255 by value, one bit each: number k is bit k % 64 of word k / 64.
 ghost use mathlib.Core.Path.{_≡_};
 ghost use mathlib.Core.Bool.{true, false};
-ghost use Prim.Native.Nat.{_/_, _%_, _≤_};
-ghost use lib.Count.{ones};
+ghost use Prim.Native.Nat.{_/_, _%_};
 ghost use lib.Dec.{eqb};
 ghost use lib.ListN.{set};
 ghost use Rattle.wire.specs.Choice.{pick};
-ghost use Rattle.number_set.specs.Members.{width, members, isMember, ofMembers, noMembers, trues};
+ghost use Rattle.number_set.specs.Members.{width, members, isMember, ofMembers, noMembers};
 ghost use Rattle.number_set.specs.Stages.{turn};
 
 // The bits of a word.
@@ -41,13 +40,6 @@ fn told(old: u64, i: usize, k: usize, member: bool) -> u64
     } else {
         old
     }
-}
-
-// The ones of a word.
-fn ones_of(word: u64) -> usize
-    ensures { λ r. ⌜ (r ≡ ones word) × (r ≤ width) ⌝ }
-{
-    u64::count_ones(word) as usize
 }
 
 impl NumberSet {
@@ -89,15 +81,5 @@ impl NumberSet {
         ensures { λ r. ⌜ r ≡ ofMembers (set noMembers k true) ⌝ }
     {
         NumberSet::none().with(k, true)
-    }
-
-    // How many members there are: the ones in the words.
-    pub fn count(self) -> usize
-        ensures { λ r. ⌜ r ≡ trues (members self) ⌝ }
-    {
-        ones_of(self.words[0])
-            + ones_of(self.words[1])
-            + ones_of(self.words[2])
-            + ones_of(self.words[3])
     }
 }

@@ -38,7 +38,7 @@ use Rattle.rct.specs.Reading.{rctHeaderAt, countAt, linkIn, linksAt, linkPlace,
 use Rattle.rct.proofs.Accepted.{Accepted, accepted, accepted-fits}
 use Rattle.rct.proofs.Checked.{Holds}
 use Rattle.rct.proofs.Links.{entry-read}
-use Rattle.rct_walker.proofs.Walks.{after-next}
+use Rattle.rct_blocks.proofs.Entries.{after-next}
 use Rattle.rct_reader.specs.Sections.{sectionRead}
 use Rattle.rct_bodies.specs.Bodies.{bodyPlace, bodyOf}
 use Rattle.rct_bodies.proofs.Bodies.{rows-fine, LinkKnown, link-known}

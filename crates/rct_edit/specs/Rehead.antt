@@ -1,4 +1,4 @@
--- What an edit makes of the head of a section in its buffer: for the code's own stages, and nothing that a public contract cites.
+-- What an edit makes of the head of a section in its buffer.
 -- Assumes nothing.
 use Prim.Native.Nat.{ℕ}
 use mathlib.Core.List.{List}

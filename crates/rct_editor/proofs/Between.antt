@@ -43,7 +43,8 @@ use Rattle.edit_answers.specs.declared.Spliced.{Spliced}
 use Rattle.edit_answers.specs.declared.Spliced.the-variants as spliced
 use Rattle.rct_edit.proofs.Outcomes.{Came, done-stops, room-passed}
 use Rattle.rct_edit.proofs.Placed.{refused-placed, came-placed}
-use Rattle.rct_editor.specs.Splicing.{filledUp, entryBytes, Spot, lengthBetween, spliced, finished, betweenVerdict, betweenBytes, between}
+use Rattle.rct_stores.specs.Stores.{filledUp}
+use Rattle.rct_editor.specs.Splicing.{entryBytes, Spot, lengthBetween, spliced, finished, betweenVerdict, betweenBytes, between}
 use Rattle.rct_edit.specs.Calls.{replacing, appending, appendingPlaced, replacingPlaced}
 use Rattle.rct_editor.proofs.Sizes.{entry-size}
 

@@ -2,18 +2,18 @@
 -- Assumes nothing.
 use Prim.Native.Nat.{ℕ, _+_, _-_, _%_, _≤_}
 use mathlib.Core.Path.{_≡_, sym, ap, _∙_}
-use mathlib.Core.List.{List, [], _∷_, _++_}
+use mathlib.Core.List.{List, _++_}
 use native.Mathlib.Omega.{arith}
-use lib.ListN.{length, getD, set, replicate, length-set, length-replicate, replicate-append-replicate}
+use lib.ListN.{length, length-set}
 use lib.Seq.{sets, length-sets}
 use Rattle.frame.specs.Syntax.{crcLength, uncounted}
 use Rattle.frame.specs.Reading.{payloadEnd, totalOf}
 use Rattle.wire.specs.Lists.{part}
-use Rattle.length_field.specs.Lengths.{longest, widestBeside, lengthBytes, besideAt, blockBytes}
+use Rattle.length_field.specs.Lengths.{longest, widestBeside, lengthBytes, blockBytes}
 use Rattle.byte_stores.specs.Stores.{putAt, Wrote}
 use Rattle.wire.specs.declared.verdict.Verdict.the-variants.{Fine}
-use Rattle.byte_stores.proofs.Writing.{sets-append, then, wrote-length}
-use Rattle.length_field.proofs.Written.{field-whole, field-put}
+use Rattle.byte_stores.proofs.Writing.{then, wrote-length}
+use Rattle.length_field.proofs.Written.{field-put}
 use Rattle.link.specs.Syntax.{linkBody}
 use Rattle.link.specs.Records.{linkOf}
 use Rattle.link.specs.declared.LinkInfo.{LinkInfo}
@@ -24,32 +24,12 @@ use Rattle.link_draft.specs.Lengths.{linkLength}
 use Rattle.link_draft.specs.Writing.{linkPut}
 use Rattle.link_draft.proofs.Written.{written-body}
 use Rattle.link_draft.proofs.Exact.{passed}
-use Rattle.rct_edit.specs.Edit.{filler}
 use Rattle.rct_edit.specs.Rehead.{rehead}
 use Rattle.frame.specs.Ending.{sealAt, sealEnd}
 use Rattle.frame.proofs.Endings.{sealed-room}
-use Rattle.rct.specs.Syntax.{linkCountPlace}
-use Rattle.rct_editor.specs.Splicing.{filledUp, entryBytes, lengthBetween, spliced, finished, betweenBytes}
+use Rattle.rct_stores.specs.Stores.{filledUp}
+use Rattle.rct_editor.specs.Splicing.{entryBytes, lengthBetween, spliced, finished, betweenBytes}
 use Rattle.rct_editor.proofs.Sizes.{body-size, entry-size}
-
--- ---- filler
-
-pub fill-none : (xs : List ℕ) (p n : ℕ) → n ≡ 0 → xs ≡ sets xs p (replicate n filler)
-fill-none xs p n z = rw z
-
-pub fill-more : (xs ys : List ℕ) (p i : ℕ) → p ≤ i → ys ≡ sets xs p (replicate (i - p) filler) → set ys i filler ≡ sets xs p (replicate (i + 1 - p) filler)
-fill-more xs ys p i h e =
-    let at : i ≡ p + length (replicate (i - p) filler) = omega (arith, length-replicate (i - p) filler) in
-    let one : i + 1 - p ≡ (i - p) + 1 = omega arith in
-    ap (λ zs. set zs i filler) e
-    ∙ ap (λ j. set (sets xs p (replicate (i - p) filler)) j filler) at
-    ∙ sets-append xs (replicate (i - p) filler) (filler ∷ []) p
-    ∙ ap (sets xs p) (replicate-append-replicate (i - p) 1 filler)
-    ∙ ap (λ n. sets xs p (replicate n filler)) (sym one)
-
-pub fill-all : (xs ys : List ℕ) (p i e : ℕ) → e ≤ i → i - p ≤ e - p → ys ≡ sets xs p (replicate (i - p) filler) → ys ≡ filledUp xs p e
-unfolding filledUp
-fill-all xs ys p i e h l s = let n : i - p ≡ e - p = omega arith in s ∙ ap (λ m. sets xs p (replicate m filler)) n
 
 -- ---- a link's entry
 
@@ -68,13 +48,6 @@ entry-put xs ys zs bs at n t k c l r is b p w =
 
     body : Wrote ys (at + 2) (linkBody (linkOf t k)) zs (at + 2 + linkLength k)
     body = record { bytes = w ∙ written-body ys (at + 2) t k c room; place = omega (arith, body-size t k c) }
-
--- ---- the head's numbers
-
-pub numbers-put : (xs bs : List ℕ) (len count : ℕ) → besideAt xs 1 ≤ widestBeside → len ≤ longest → bs ≡ lengthBytes (besideAt xs 1 % (widestBeside + 1)) (len % (longest + 1))
-    → set (set (set xs 1 (getD bs 0 0)) 2 (getD bs 1 0)) linkCountPlace count ≡ rehead xs len count
-unfolding rehead lengthBytes
-numbers-put xs bs len count h l b = rw (b ∙ field-whole (besideAt xs 1) len h l)
 
 -- ---- the three of them: the tail, the entry, the numbers
 

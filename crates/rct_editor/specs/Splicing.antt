@@ -3,7 +3,7 @@
 use Prim.Native.Nat.{ℕ, _+_, _-_, _≤_}
 use mathlib.Core.Path.{_≡_}
 use mathlib.Core.List.{List}
-use lib.ListN.{length, replicate}
+use lib.ListN.{length}
 use lib.Seq.{sets}
 use Rattle.wire.specs.Lists.{part}
 use Rattle.length_field.specs.Lengths.{blockBytes}
@@ -18,15 +18,12 @@ use Rattle.link_draft.specs.Lengths.{linkLength}
 use Rattle.frame.specs.Syntax.{crcLength, least, limit, uncounted}
 use Rattle.frame.specs.Reading.{declared, payloadEnd, totalOf}
 use Rattle.rct.specs.Syntax.{rct, headLength}
-use Rattle.rct_edit.specs.Edit.{filler, roomRows, Outcome, done}
+use Rattle.rct_edit.specs.Edit.{roomRows, Outcome, done}
 use Rattle.rct_edit.specs.Rehead.{rehead}
+use Rattle.rct_stores.specs.Stores.{filledUp}
 use Rattle.frame.specs.Ending.{sealedAt}
 
 -- ---- the steps
-
--- filled from p up to e
-unfoldable pub filledUp : List ℕ → ℕ → ℕ → List ℕ
-filledUp xs p e = sets xs p (replicate (e - p) filler)
 
 -- the entry of the record k with the text t
 abbrev pub entryBytes : List ℕ → LinkInfo → List ℕ

@@ -1,6 +1,6 @@
 // A link put into a section in a lent buffer, in place of what lies between two places.
 ghost use mathlib.Core.Path.{_≡_};
-ghost use Prim.Native.Nat.{_+_, _-_, _≤_, _<_};
+ghost use Prim.Native.Nat.{_+_, _≤_};
 ghost use lib.ListN.{length};
 ghost use lib.Seq.{sets};
 ghost use Rattle.length_field.specs.Lengths.{longest};
@@ -8,17 +8,14 @@ ghost use Rattle.wire.specs.declared.verdict.Verdict.the-variants.{Fine};
 ghost use Rattle.link_draft.specs.Checks.{checkLink};
 ghost use Rattle.link_draft.specs.Lengths.{linkLength};
 ghost use Rattle.frame.specs.Reading.{totalOf};
-ghost use Rattle.rct.specs.Syntax.{linkCountPlace};
 ghost use Rattle.rct_edit.specs.Edit.{mostLinks};
-ghost use Rattle.rct_edit.specs.Rehead.{rehead};
 ghost use Rattle.rct_edit.specs.Answers.{answer};
-ghost use Rattle.rct_editor.specs.Splicing.{filledUp, entryBytes, Spot, between};
+ghost use Rattle.rct_editor.specs.Splicing.{entryBytes, Spot, between};
 use edit_answers::Edited;
 use field::Field;
 use frame::Table;
 use length_field::LengthField;
 use link::LinkInfo;
-use rct::RctHeader;
 use rct_edit::room::check_room;
 use wire::verdict::Verdict;
 
@@ -51,9 +48,9 @@ pub(crate) fn put_between(
     let behind = from + LengthField::BYTES + body;
     byte_moves::move_within(b, to, behind, frame::payload_end(total) - to);
     put_entry(b, from, body, text, link);
-    put_numbers(b, section_length, count);
+    rct_stores::put_numbers(b, section_length, count as u8);
     let new = frame_ending::seal(b, frame::payload_end(Table::UNCOUNTED + section_length));
-    fill(b, new, total);
+    rct_stores::fill(b, new, total);
     Edited::accepted(new)
 }
 
@@ -69,32 +66,4 @@ fn put_entry(b: &mut [u8], at: usize, body: usize, text: &[u8], link: LinkInfo)
     let bytes = field.to_bytes();
     byte_stores::put_at(b, at, &bytes);
     link_writer::put_link(b, at + LengthField::BYTES, text, link);
-}
-
-// section_length anew, the four bits beside it kept, and the number of links.
-fn put_numbers(b: &mut [u8], section_length: usize, count: usize)
-    requires { ⌜ (linkCountPlace < length (now b)) × ((«section_length» ≤ longest) × (count ≤ mostLinks)) ⌝ }
-    ensures { λ r. ⌜ now (b .exit) ≡ rehead (now (b .entry)) «section_length» count ⌝ }
-{
-    let old = LengthField::of_bytes(b[1], b[2]);
-    let field = LengthField {
-        beside: old.beside,
-        length: section_length,
-    };
-    let bytes = field.to_bytes();
-    b[1] = bytes[0];
-    b[2] = bytes[1];
-    b[RctHeader::COUNT_AT] = count as u8;
-}
-
-// The bytes from a new end up to the old one become filler.
-fn fill(b: &mut [u8], from: usize, to: usize)
-    requires { ⌜ to ≤ length (now b) ⌝ }
-    ensures { λ r. ⌜ now (b .exit) ≡ filledUp (now (b .entry)) from to ⌝ }
-{
-    let mut i = from;
-    while i < to {
-        b[i] = rct_edit::filler();
-        i += 1;
-    }
 }

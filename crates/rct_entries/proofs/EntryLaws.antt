@@ -17,8 +17,8 @@ use Rattle.link.specs.declared.reading.FieldsRead.{FieldsRead}
 use Rattle.link.specs.declared.reading.FieldsRead.the-variants as fields
 use Rattle.link.proofs.Answers.{fields-had, fields-not}
 use Rattle.rct.specs.Reading.{bodyIn, entryVerdict}
-use Rattle.rct_walker.specs.Places.{endOf}
-use Rattle.rct_walker.proofs.Walks.{Passed, entry-body}
+use Rattle.rct_blocks.specs.Ends.{endOf}
+use Rattle.rct_blocks.proofs.Entries.{Passed, entry-body}
 use Rattle.rct_entries.specs.Entries.{entryAnswer, entryRead}
 use Rattle.rct_entries.specs.declared.EntryRead.the-variants as entry
 

@@ -7,7 +7,7 @@ use mathlib.Core.List.{List}
 use Rattle.wire.specs.declared.verdict.Refusal.{Refusal}
 use Rattle.wire.proofs.Among.{listed}
 use Rattle.rct.proofs.Listed.{entryReading, entry-listed}
-use Rattle.rct_walker.specs.Places.{endOf}
+use Rattle.rct_blocks.specs.Ends.{endOf}
 use Rattle.rct_entries.specs.Entries.{entryRead}
 use Rattle.rct_entries.specs.declared.EntryRead.the-variants as entry
 use Rattle.rct_entries.proofs.EntryLaws.{entry-had-none}

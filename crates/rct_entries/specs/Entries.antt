@@ -9,7 +9,7 @@ use Rattle.link.specs.Reading.{itemsPlace}
 use Rattle.link.specs.Records.{fieldsAt}
 use Rattle.link.specs.declared.LinkFields.{LinkFields}
 use Rattle.rct.specs.Reading.{bodyIn, entryVerdict}
-use Rattle.rct_walker.specs.Places.{endOf}
+use Rattle.rct_blocks.specs.Ends.{endOf}
 use Rattle.rct_entries.specs.declared.EntryRead.{EntryRead}
 use Rattle.rct_entries.specs.declared.EntryRead.the-variants as entry
 

@@ -23,12 +23,12 @@ pub fn read_entry(payload: &[u8], at: u16) -> EntryRead
     ensures { λ r. ⌜ r ≡ entryRead (now (payload .entry)) at ⌝ }
 {
     let p = at as usize;
-    let end = rct_walker::place::past_entry_length(payload, at);
+    let end = rct_blocks::past_entry_length(payload, at);
     match end {
         Reached::At(next) => {
             let start = p + LengthField::BYTES;
             let field = LengthField::of_bytes(payload[p], payload[p + 1]);
-            let link = link_reader::read_fields(
+            let link = fields_reader::read_fields(
                 &payload[start..next],
                 start as u16,
                 field.beside as u16,

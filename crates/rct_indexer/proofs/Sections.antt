@@ -26,7 +26,7 @@ use Rattle.rct.proofs.Accepted.{place-is}
 use Rattle.rct.proofs.Checked.{count-is}
 use Rattle.wire.proofs.Lists.{drop-take}
 use Rattle.rct.proofs.Payload.{loop-same, links-same, links-alike}
-use Rattle.rct_walker.specs.Places.{endOf}
+use Rattle.rct_blocks.specs.Ends.{endOf}
 use Rattle.rct_index.specs.Index.{setsOf, entryPlaces, filledPlaces, indexOf}
 use Rattle.rct_index.specs.Building.{descriptorPlace, loopRows, buildVerdict, built, building}
 use Rattle.rct_index.specs.declared.RctIndex.{RctIndex}

@@ -24,11 +24,11 @@ use Rattle.rct.specs.Syntax.{headLength, linksBytes}
 use Rattle.rct.specs.Reading.{bodyIn, linkIn, after, linksAt, linksVerdict, loopVerdict}
 use Rattle.rct.proofs.Links.{place-of, links-sum, length-linksAt}
 use Rattle.rct_edit.specs.Edit.{mostLinks}
-use Rattle.rct_walker.specs.Places.{endOf}
+use Rattle.rct_blocks.specs.Ends.{endOf}
 use Rattle.rct_entries.specs.Entries.{entryRead}
 use Rattle.rct_entries.specs.declared.EntryRead.the-variants as entry
 use Rattle.rct_entries.proofs.EntryLaws.{EntryHad, entry-had, entry-had-none}
-use Rattle.rct_walker.proofs.Walks.{after-next, turn-on, turn-stop}
+use Rattle.rct_blocks.proofs.Entries.{after-next, turn-on, turn-stop}
 use Rattle.rct_index.specs.Index.{linkMarks, marksIn, setsOf, withMarks, entryPlaces, filledPlaces, noIndex}
 use Rattle.rct_index.specs.Building.{built}
 use Rattle.rct_index.specs.declared.LinkSets.{LinkSets}

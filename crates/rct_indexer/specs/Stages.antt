@@ -8,7 +8,7 @@ use Rattle.wire.specs.declared.verdict.Verdict.{Verdict}
 use Rattle.descriptors.specs.Reading.{descriptorsOf, cutVerdict}
 use Rattle.rct.specs.Syntax.{headLength}
 use Rattle.rct.specs.Reading.{after, linksAt, linksVerdict, loopVerdict}
-use Rattle.rct_walker.specs.Places.{endOf}
+use Rattle.rct_blocks.specs.Ends.{endOf}
 use Rattle.rct_index.specs.Index.{setsOf, entryPlaces, filledPlaces}
 use Rattle.rct_index.specs.declared.RctIndex.{RctIndex}
 

@@ -10,6 +10,7 @@ use descriptors::DescriptorsCounted;
 use frame::Demands;
 use length_field::LengthField;
 use rct::RctHeader;
+use rct_blocks::check_loop;
 use rct_edit::MOST_LINKS;
 use rct_entries::EntryRead;
 use rct_entries::read_entry;
@@ -17,7 +18,6 @@ use rct_index::IndexBuilt;
 use rct_index::LinkMarks;
 use rct_index::LinkSets;
 use rct_index::RctIndex;
-use rct_walker::place::check_loop;
 use wire::verdict::Reached;
 use wire::verdict::Verdict;
 

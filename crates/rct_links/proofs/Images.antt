@@ -27,10 +27,10 @@ use Rattle.rct.proofs.Accepted.{accepted, length-is}
 use Rattle.rct.proofs.Checked.{count-is}
 use Rattle.rct.proofs.Links.{entry-pass}
 use Rattle.rct.proofs.Payload.{length-same, beside-same, body-same}
-use Rattle.rct_walker.specs.Places.{endOf}
+use Rattle.rct_blocks.specs.Ends.{endOf}
 use Rattle.rct_entries.specs.Entries.{entryAnswer, entryRead}
 use Rattle.rct_entries.specs.declared.EntryRead.the-variants as entry
-use Rattle.rct_walker.proofs.Walks.{after-next}
+use Rattle.rct_blocks.proofs.Entries.{after-next}
 use Rattle.rct_reader.specs.Sections.{sectionRead}
 use Rattle.rct_reader.specs.declared.RctSection.{RctSection}
 use Rattle.rct_bodies.specs.Bodies.{linkRows, bodyPlace, bodyOf}

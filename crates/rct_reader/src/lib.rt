@@ -99,12 +99,12 @@ fn section_of(s: &[u8], found: RctLoop) -> RctSection
 pub fn read_section(s: &[u8]) -> RctSection
     ensures { λ r. ⌜ r ≡ sectionRead (plain (now (s .entry))) (now (s .entry)) ⌝ }
 {
-    section_of(s, rct_readings::plain_loop(s))
+    section_of(s, rct_loops::plain_loop(s))
 }
 
 // The checked reading: the plain one, then 20.
 pub fn check_section(s: &[u8]) -> RctSection
     ensures { λ r. ⌜ r ≡ sectionRead (checked (now (s .entry))) (now (s .entry)) ⌝ }
 {
-    section_of(s, rct_readings::checked_loop(s))
+    section_of(s, rct_loops::checked_loop(s))
 }

@@ -8,10 +8,8 @@ use Rattle.wire.specs.declared.verdict.Refusal.{Refusal}
 use Rattle.wire.proofs.Among.{listed}
 use Rattle.rct.specs.Reading.{plain, checked}
 use Rattle.rct.proofs.Listed.{plainReading, checkedReading, plain-listed, checked-listed}
-use Rattle.rct_walker.specs.Places.{placesAt, walked, loopFound}
-use Rattle.rct_walker.specs.declared.RctLoop.the-variants as whole
+use Rattle.rct_walker.specs.Places.{placesAt, walked}
 use Rattle.rct_walker.specs.declared.RctWalked.the-variants as walk
-use Rattle.rct_walker.proofs.Loops.{loop-not}
 use Rattle.rct_walker.proofs.Walks.{walked-refused}
 
 module _ (xs : List ℕ) (r : Refusal) where
@@ -20,9 +18,3 @@ module _ (xs : List ℕ) (r : Refusal) where
 
   pub checked-places-listed : (k : ℕ) → walked (checked xs) (placesAt xs k) ≡ walk.Refused r → listed (r .number) checkedReading ≡ true
   checked-places-listed k e = checked-listed xs r (walked-refused (checked xs) _ r e)
-
-  pub plain-loop-listed : loopFound (plain xs) xs ≡ whole.Refused r → listed (r .number) plainReading ≡ true
-  plain-loop-listed e = plain-listed xs r (loop-not (plain xs) xs r e)
-
-  pub checked-loop-listed : loopFound (checked xs) xs ≡ whole.Refused r → listed (r .number) checkedReading ≡ true
-  checked-loop-listed e = checked-listed xs r (loop-not (checked xs) xs r e)

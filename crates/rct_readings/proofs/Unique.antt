@@ -6,19 +6,9 @@ use Rattle.rct_readings.proofs.plain_places.Kinds as plain-places-kinds
 use Rattle.rct_readings.proofs.plain_places.Reads as plain-places-reads
 use Rattle.rct_readings.proofs.checked_places.Kinds as checked-places-kinds
 use Rattle.rct_readings.proofs.checked_places.Reads as checked-places-reads
-use Rattle.rct_readings.proofs.plain_loop.Kinds as plain-loop-kinds
-use Rattle.rct_readings.proofs.plain_loop.Reads as plain-loop-reads
-use Rattle.rct_readings.proofs.checked_loop.Kinds as checked-loop-kinds
-use Rattle.rct_readings.proofs.checked_loop.Reads as checked-loop-reads
 
 pub plain-places-one : One plain-places-kinds.ps plain-places-kinds.r plain-places-reads.Asked plain-places-reads.Learnt
 plain-places-one = record { total = λ κs a. tt; one = λ κs a x y v w p q. (both p q, refl) }
 
 pub checked-places-one : One checked-places-kinds.ps checked-places-kinds.r checked-places-reads.Asked checked-places-reads.Learnt
 checked-places-one = record { total = λ κs a. tt; one = λ κs a x y v w p q. (both p q, refl) }
-
-pub plain-loop-one : One plain-loop-kinds.ps plain-loop-kinds.r plain-loop-reads.Asked plain-loop-reads.Learnt
-plain-loop-one = record { total = λ κs a. tt; one = λ κs a x y v w p q. (both p q, refl) }
-
-pub checked-loop-one : One checked-loop-kinds.ps checked-loop-kinds.r checked-loop-reads.Asked checked-loop-reads.Learnt
-checked-loop-one = record { total = λ κs a. tt; one = λ κs a x y v w p q. (both p q, refl) }

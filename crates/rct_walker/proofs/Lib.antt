@@ -2,6 +2,6 @@
 pub mod Walks
 pub mod Loops
 pub mod Spans
-pub mod Ends
+pub mod Payloads
 pub mod Listed
 pub mod Unique

@@ -6,19 +6,9 @@ use Rattle.rct_walker.proofs.walk.read_places.Kinds as read-places-kind
 use Rattle.rct_walker.proofs.walk.read_places.Reads as read-places-reads
 use Rattle.rct_walker.proofs.walk.read_loop.Kinds as read-loop-kinds
 use Rattle.rct_walker.proofs.walk.read_loop.Reads as read-loop-reads
-use Rattle.rct_walker.proofs.place.past_entry_length.Kinds as past-entry-length-kinds
-use Rattle.rct_walker.proofs.place.past_entry_length.Reads as past-entry-length-reads
-use Rattle.rct_walker.proofs.place.check_loop.Kinds as check-loop-kinds
-use Rattle.rct_walker.proofs.place.check_loop.Reads as check-loop-reads
 
 pub read-places-one : One read-places-kinds.ps read-places-kinds.r read-places-reads.Asked read-places-reads.Learnt
 read-places-one = record { total = λ κs a. tt; one = λ κs a x y v w p q. (both p q, refl) }
 
 pub read-loop-one : One read-loop-kinds.ps read-loop-kinds.r read-loop-reads.Asked read-loop-reads.Learnt
 read-loop-one = record { total = λ κs a. tt; one = λ κs a x y v w p q. (both p q, refl) }
-
-pub past-entry-length-one : One past-entry-length-kinds.ps past-entry-length-kinds.r past-entry-length-reads.Asked past-entry-length-reads.Learnt
-past-entry-length-one = record { total = λ κs a. tt; one = λ κs a x y v w p q. (both p q, refl) }
-
-pub check-loop-one : One check-loop-kinds.ps check-loop-kinds.r check-loop-reads.Asked check-loop-reads.Learnt
-check-loop-one = record { total = λ κs a. tt; one = λ κs a x y v w p q. (both p q, refl) }

@@ -1,25 +1,22 @@
 -- What the stages of the walk answer, case by case, over plain lists: the code's returns cite these.
 -- Assumes nothing.
-use mathlib.Core.Path.{_≡_, refl, sym, ap, _∙_}
+use mathlib.Core.Path.{_≡_, refl, sym, _∙_}
 use Prim.Native.Nat.{ℕ, zero, suc, _+_, _-_, _≤_, _<_, min}
-use native.Mathlib.Numerals.{add-one}
 use native.Mathlib.Omega.{arith}
 use mathlib.Core.List.{List}
 use lib.ListN.{take, drop}
 use borrow.Author.Tests.{le-leb, lt-leb}
 use Rattle.length_field.specs.Lengths.{lengthAt, blockEnd}
-use Rattle.wire.specs.Verdict.{reached, _▷_}
+use Rattle.wire.specs.Verdict.{_▷_}
 use Rattle.wire.specs.declared.verdict.Refusal.{Refusal}
 use Rattle.wire.specs.declared.verdict.Verdict.{Verdict}
 use Rattle.wire.specs.declared.verdict.Verdict.the-variants.{Fine, Refused}
-use Rattle.wire.specs.declared.verdict.Reached.the-variants as reach
-use Rattle.length_field.proofs.Blocks.{block-passed}
-use Rattle.wire.proofs.Verdicts.{then-fine, go-on, refused-then, then-assoc, reached-at}
+use Rattle.wire.proofs.Verdicts.{then-fine, go-on, refused-then, then-assoc}
 use Rattle.link.specs.Reading.{bodyVerdict}
-use Rattle.frame.specs.Reading.{payloadEnd}
 use Rattle.rct.specs.Syntax.{headLength}
-use Rattle.rct.specs.Reading.{bodyIn, after, countAt, linkPlace, loopPlace, entryRows, entryVerdict, linksVerdict, loopVerdict, payloadVerdict}
+use Rattle.rct.specs.Reading.{after, countAt, linkPlace, loopPlace, entryVerdict, linksVerdict, loopVerdict}
 use Rattle.rct.proofs.Links.{entry-passed, after-sum, links-sum}
+use Rattle.rct_blocks.proofs.Entries.{Passed, entry-body, after-next}
 use Rattle.rct_walker.specs.Places.{spanBy, linkSpan, walked}
 use Rattle.rct_walker.specs.Stages.{spanned, restVerdict}
 use Rattle.rct_walker.specs.declared.LinkSpan.the-variants as span
@@ -80,51 +77,11 @@ span-none n k p q h = rw (lt-leb k n h)
 
 -- ---- one entry
 
-module _ (xs : List ℕ) (e p : ℕ) where
-  -- what a length field that is passed leaves known of the place t behind its entry
-  pub record Passed (t : ℕ) : Type 0 where
-    pub fine : entryRows xs e p ≡ Fine
-    pub place : blockEnd xs p ≡ t
-    pub behind : p + 2 ≤ t
-    pub within : t ≤ e
-
-  pub length-passed : (t : ℕ) → reached (entryRows xs e p) (blockEnd xs p) ≡ reach.At t → Passed t
-  length-passed t q =
-      let g = reached-at _ _ _ q in
-      let w : blockEnd xs p ≤ e = block-passed _ _ _ _ xs e p (g .0) in
-      let z : blockEnd xs p ≡ t = g .1 in
-      record { fine = g .0; place = z; behind = omega arith; within = omega arith }
-
-  pub entry-stop : (r : Refusal) → entryRows xs e p ≡ Refused r → entryVerdict xs e p ≡ Refused r
-  unfolding entryVerdict
-  entry-stop r v = refused-then _ _ r v
-
-  pub entry-body : entryRows xs e p ≡ Fine → bodyVerdict (bodyIn xs p) ≡ entryVerdict xs e p
-  unfolding entryVerdict
-  entry-body v = sym (go-on _ _ v)
-
-  -- the body's verdict as the code has it, of the part up to t
-  pub entry-said : (t : ℕ) (v : Verdict) → Passed t → v ≡ bodyVerdict (take (t - (p + 2)) (drop (p + 2) xs)) → v ≡ entryVerdict xs e p
-  entry-said t v k is = let d : t - (p + 2) ≡ lengthAt xs p = omega (arith, k .place) in is ∙ rw d (entry-body (k .fine))
+-- the body's verdict as the code has it, of the part up to t
+pub entry-said : (xs : List ℕ) (e p t : ℕ) (v : Verdict) → Passed xs e p t → v ≡ bodyVerdict (take (t - (p + 2)) (drop (p + 2) xs)) → v ≡ entryVerdict xs e p
+entry-said xs e p t v k is = let d : t - (p + 2) ≡ lengthAt xs p = omega (arith, k .place) in is ∙ rw d (entry-body xs e p (k .fine))
 
 -- ---- the walk over n links from p on: i of them are behind it
-
-after-suc : (i : ℕ) (xs : List ℕ) (p : ℕ) → after (suc i) xs p ≡ blockEnd xs (after i xs p)
-after-suc zero xs p = refl
-after-suc (suc i) xs p = after-suc i xs (blockEnd xs p)
-
-pub after-next : (i : ℕ) (xs : List ℕ) (p : ℕ) → after (i + 1) xs p ≡ blockEnd xs (after i xs p)
-after-next i xs p = rw add-one (after-suc i xs p)
-
-module _ (xs : List ℕ) (e n i p : ℕ) (h : i < n) where
-  turn : linksVerdict (n - i) xs e p ≡ entryVerdict xs e p ▷ linksVerdict (n - (i + 1)) xs e (blockEnd xs p)
-  turn = let one : n - i ≡ suc (n - (i + 1)) = omega arith in ap (λ m. linksVerdict m xs e p) one
-
-  pub turn-on : entryVerdict xs e p ≡ Fine → linksVerdict (n - i) xs e p ≡ linksVerdict (n - (i + 1)) xs e (blockEnd xs p)
-  turn-on v = turn ∙ go-on _ _ v
-
-  pub turn-stop : (r : Refusal) → entryVerdict xs e p ≡ Refused r → linksVerdict (n - i) xs e p ≡ Refused r
-  turn-stop r v = turn ∙ refused-then _ _ r v
 
 pub walk-done : (xs : List ℕ) (e n i p : ℕ) → n ≤ i → linksVerdict (n - i) xs e p ≡ Fine
 walk-done xs e n i p h = let z : n - i ≡ 0 = omega arith in rw z
@@ -144,26 +101,21 @@ module _ (m n : ℕ) (xs : List ℕ) (e p : ℕ) where
   pub links-stop : (r : Refusal) → linksVerdict m xs e p ≡ Refused r → linksVerdict (m + n) xs e p ≡ Refused r
   links-stop r v = links-sum m n xs e p ∙ refused-then _ _ r v
 
--- ---- the rest of a section behind m of its n links
+-- ---- the rest of a payload behind m of its links
 
-module _ (xs : List ℕ) (m n : ℕ) (is : m + n ≡ countAt xs) where
-  whole : payloadVerdict xs ≡ linksVerdict m xs (payloadEnd xs) headLength ▷ restVerdict n xs (payloadEnd xs) (after m xs headLength)
-  unfolding payloadVerdict restVerdict
-  whole = rw (← is, links-sum m n xs (payloadEnd xs) headLength, after-sum m n xs headLength) (then-assoc _ _ _)
+module _ (xs : List ℕ) (e m n : ℕ) (is : m + n ≡ countAt xs) where
+  whole : restVerdict (countAt xs) xs e headLength ≡ linksVerdict m xs e headLength ▷ restVerdict n xs e (after m xs headLength)
+  unfolding restVerdict
+  whole = rw (← is, links-sum m n xs e headLength, after-sum m n xs headLength) (then-assoc _ _ _)
 
-  pub payload-stop : (r : Refusal) → linksVerdict m xs (payloadEnd xs) headLength ≡ Refused r → payloadVerdict xs ≡ Refused r
+  pub payload-stop : (r : Refusal) → linksVerdict m xs e headLength ≡ Refused r → restVerdict (countAt xs) xs e headLength ≡ Refused r
   payload-stop r v = whole ∙ refused-then _ _ r v
 
-  pub payload-rest : linksVerdict m xs (payloadEnd xs) headLength ≡ Fine → payloadVerdict xs ≡ restVerdict n xs (payloadEnd xs) (after m xs headLength)
+  pub payload-rest : linksVerdict m xs e headLength ≡ Fine → restVerdict (countAt xs) xs e headLength ≡ restVerdict n xs e (after m xs headLength)
   payload-rest v = whole ∙ go-on _ _ v
 
   pub loop-place : after n xs (after m xs headLength) ≡ loopPlace xs
   loop-place = rw (← is) (sym (after-sum m n xs headLength))
-
--- with no link behind, the rest is the whole
-pub payload-is : (xs : List ℕ) → restVerdict (countAt xs) xs (payloadEnd xs) headLength ≡ payloadVerdict xs
-unfolding payloadVerdict restVerdict
-payload-is xs = refl
 
 module _ (n : ℕ) (xs : List ℕ) (e p : ℕ) where
   pub rest-stop : (r : Refusal) → linksVerdict n xs e p ≡ Refused r → restVerdict n xs e p ≡ Refused r

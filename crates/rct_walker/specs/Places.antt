@@ -1,13 +1,11 @@
--- Where a reading finds the links and the descriptor loop, and where a payload ends.
+-- Where a reading finds the links and the descriptor loop.
 -- Assumes nothing.
 use Prim.Native.Nat.{ℕ, _+_, min}
 use mathlib.Core.List.{List}
 use lib.Dec.{leb}
-use lib.ListN.{length}
 use Rattle.wire.specs.Choice.{pick}
 use Rattle.wire.specs.declared.verdict.Verdict.{Verdict}
 use Rattle.wire.specs.declared.verdict.Verdict.the-variants.{Fine, Refused}
-use Rattle.frame.specs.Syntax.{longestPayload}
 use Rattle.frame.specs.Reading.{totalOf}
 use Rattle.rct.specs.Reading.{countAt, linkPlace, loopPlace}
 use Rattle.rct_walker.specs.declared.LinkSpan.{LinkSpan}
@@ -38,7 +36,3 @@ walked (Refused r) p = walk.Refused r
 unfoldable pub loopFound : Verdict → List ℕ → RctLoop
 loopFound Fine xs = whole.At (totalOf xs) (countAt xs) (loopPlace xs)
 loopFound (Refused r) xs = whole.Refused r
-
--- where a payload, the bytes of a section up to its CRC, ends: no section has a longer one
-abbrev pub endOf : List ℕ → ℕ
-endOf xs = min (length xs) longestPayload

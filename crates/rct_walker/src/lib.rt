@@ -1,8 +1,6 @@
-// Walking over a related content section, by what a reading demands: the places of its links and of its loop, and over
-// either by its place.
+// Walking over a related content section, by what a reading demands: the places of its links and of its loop.
 use wire::verdict::Refusal;
 
-pub mod place;
 pub mod walk;
 
 // Where the entry of a link starts and ends. At the number of links it is the empty span where the next one would go.

@@ -1,15 +1,14 @@
-// One pass over a section: it checks what it walks over, and finds the places on its way.
+// One pass over a section: it checks what it walks over, and finds the places on its way. The stages walk over the payload, the
+// bytes up to the CRC.
 ghost use mathlib.Core.Path.{_≡_};
 ghost use Prim.Native.Nat.{_+_, _≤_, min};
-ghost use lib.ListN.{length};
 ghost use Rattle.length_field.specs.Lengths.{blockEnd};
 ghost use Rattle.wire.specs.Verdict.{reached};
-ghost use Rattle.frame.specs.Syntax.{least};
-ghost use Rattle.frame.specs.Reading.{totalOf};
-ghost use Rattle.rct.specs.Syntax.{headLength, rct};
-ghost use Rattle.rct.specs.Reading.{after, linkPlace, loopPlace, entryRows, entryVerdict, linksVerdict, loopVerdict, payloadVerdict, reading};
+ghost use Rattle.rct.specs.Syntax.{headLength};
+ghost use Rattle.rct.specs.Reading.{countAt, after, linkPlace, entryVerdict, linksVerdict, reading};
+ghost use Rattle.rct_blocks.specs.Ends.{endOf};
 ghost use Rattle.rct_walker.specs.Places.{spanBy, placesAt, walked, loopFound};
-ghost use Rattle.rct_walker.specs.Stages.{spanned, restVerdict};
+ghost use Rattle.rct_walker.specs.Stages.{spanned, restVerdict, placesIn};
 use crate::LinkSpan;
 use crate::RctLoop;
 use crate::RctPlaces;
@@ -21,37 +20,15 @@ use wire::verdict::Reached;
 use wire::verdict::Refusal;
 use wire::verdict::Verdict;
 
-// Over the entry at `p` of a payload that ends at `e`, its body not looked at: refusals 4 and 5.
-pub(crate) fn past_length(s: &[u8], e: usize, p: usize) -> Reached
-    requires { ⌜ (e ≤ length (now s)) × (p ≤ 65535) ⌝ }
-    ensures { λ r. ⌜ r ≡ reached (entryRows (now (s .entry)) e p) (blockEnd (now (s .entry)) p) ⌝ }
+// Over the entry at a place, its body checked: refusals 4 to 16.
+fn past_entry(payload: &[u8], at: u16) -> Reached
+    ensures { λ r. ⌜ r ≡ reached (entryVerdict (now (payload .entry)) (endOf (now (payload .entry))) at) (blockEnd (now (payload .entry)) at) ⌝ }
 {
-    let start = p + LengthField::BYTES;
-    if e < start {
-        return Reached::Refused(Refusal {
-            number: Refusal::ENTRY_CUT,
-            first: start,
-            second: e,
-        });
-    }
-    let field = LengthField::of_bytes(s[p], s[p + 1]);
-    let v = field.check_left(e - start, Refusal::LINK_TOO_LONG);
-    match v {
-        Verdict::Fine => Reached::At(start + field.length),
-        Verdict::Refused(r) => Reached::Refused(r),
-    }
-}
-
-// Over the entry at `p`, its body checked: refusals 4 to 16.
-fn past_entry(s: &[u8], e: usize, p: usize) -> Reached
-    requires { ⌜ (e ≤ length (now s)) × (p ≤ 65535) ⌝ }
-    ensures { λ r. ⌜ r ≡ reached (entryVerdict (now (s .entry)) e p) (blockEnd (now (s .entry)) p) ⌝ }
-{
-    let end = past_length(s, e, p);
+    let end = rct_blocks::past_entry_length(payload, at);
     match end {
         Reached::At(next) => {
-            let start = p + LengthField::BYTES;
-            let v = link_reader::check_body(&s[start..next]);
+            let start = (at as usize) + LengthField::BYTES;
+            let v = link_walker::check_body(&payload[start..next]);
             match v {
                 Verdict::Fine => Reached::At(next),
                 Verdict::Refused(r) => Reached::Refused(r),
@@ -62,14 +39,14 @@ fn past_entry(s: &[u8], e: usize, p: usize) -> Reached
 }
 
 // Over `n` links, the first of which stands at `at`.
-fn past_links(s: &[u8], e: usize, at: usize, n: usize) -> Reached
-    requires { ⌜ (at ≤ e) × ((e ≤ length (now s)) × (e ≤ 65535)) ⌝ }
-    ensures { λ r. ⌜ r ≡ reached (linksVerdict n (now (s .entry)) e at) (after n (now (s .entry)) at) ⌝ }
+fn past_links(payload: &[u8], at: u16, n: usize) -> Reached
+    requires { ⌜ at ≤ endOf (now payload) ⌝ }
+    ensures { λ r. ⌜ r ≡ reached (linksVerdict n (now (payload .entry)) (endOf (now (payload .entry))) at) (after n (now (payload .entry)) at) ⌝ }
 {
-    let mut p = at;
+    let mut p = at as usize;
     let mut i: usize = 0;
     while i < n {
-        let step = past_entry(s, e, p);
+        let step = past_entry(payload, p as u16);
         match step {
             Reached::At(next) => {
                 p = next;
@@ -84,17 +61,17 @@ fn past_links(s: &[u8], e: usize, at: usize, n: usize) -> Reached
 }
 
 // The same where there may be none: the loop and its answer cost more than all else that an empty section does.
-fn past_any_links(s: &[u8], e: usize, at: usize, n: usize) -> Reached
-    requires { ⌜ (at ≤ e) × ((e ≤ length (now s)) × (e ≤ 65535)) ⌝ }
-    ensures { λ r. ⌜ r ≡ reached (linksVerdict n (now (s .entry)) e at) (after n (now (s .entry)) at) ⌝ }
+fn past_any_links(payload: &[u8], at: u16, n: usize) -> Reached
+    requires { ⌜ at ≤ endOf (now payload) ⌝ }
+    ensures { λ r. ⌜ r ≡ reached (linksVerdict n (now (payload .entry)) (endOf (now (payload .entry))) at) (after n (now (payload .entry)) at) ⌝ }
 {
     if n == 0 {
-        return Reached::At(at);
+        return Reached::At(at as usize);
     }
-    past_links(s, e, at, n)
+    past_links(payload, at, n)
 }
 
-pub(crate) fn smaller(a: usize, b: usize) -> usize
+fn smaller(a: usize, b: usize) -> usize
     ensures { λ r. ⌜ r ≡ min a b ⌝ }
 {
     if a < b { a } else { b }
@@ -107,14 +84,14 @@ enum Spanned {
 }
 
 // Over the links `before` a link, and over as many more as `own` says: that one, or none where there is none.
-fn past_link(s: &[u8], e: usize, before: usize, own: usize) -> Spanned
-    requires { ⌜ (headLength ≤ e) × ((e ≤ length (now s)) × (e ≤ 65535)) ⌝ }
-    ensures { λ r. ⌜ r ≡ spanned (linksVerdict (before + own) (now (s .entry)) e headLength) (linkPlace (now (s .entry)) before) (linkPlace (now (s .entry)) (before + own)) ⌝ }
+fn past_link(payload: &[u8], before: usize, own: usize) -> Spanned
+    requires { ⌜ headLength ≤ endOf (now payload) ⌝ }
+    ensures { λ r. ⌜ r ≡ spanned (linksVerdict (before + own) (now (payload .entry)) (endOf (now (payload .entry))) headLength) (linkPlace (now (payload .entry)) before) (linkPlace (now (payload .entry)) (before + own)) ⌝ }
 {
-    let first = past_links(s, e, RctHeader::head(), before);
+    let first = past_links(payload, RctHeader::HEAD as u16, before);
     match first {
         Reached::At(start) => {
-            let last = past_links(s, e, start, own);
+            let last = past_links(payload, start as u16, own);
             match last {
                 Reached::At(end) => Spanned::At { start, end },
                 Reached::Refused(r) => Spanned::Refused(r),
@@ -122,23 +99,6 @@ fn past_link(s: &[u8], e: usize, before: usize, own: usize) -> Spanned
         }
         Reached::Refused(r) => Spanned::Refused(r),
     }
-}
-
-// The descriptor loop at `p`, with which the payload ends at `e`.
-pub(crate) fn loop_verdict(s: &[u8], e: usize, p: usize) -> Verdict
-    requires { ⌜ (e ≤ length (now s)) × (p ≤ 65535) ⌝ }
-    ensures { λ r. ⌜ r ≡ loopVerdict (now (s .entry)) e p ⌝ }
-{
-    let start = p + LengthField::BYTES;
-    if e < start {
-        return Verdict::Refused(Refusal {
-            number: Refusal::LOOP_CUT,
-            first: start,
-            second: e,
-        });
-    }
-    let field = LengthField::of_bytes(s[p], s[p + 1]);
-    field.check_last(e - start, Refusal::LOOP_TOO_LONG, Refusal::SECTION_SLACK)
 }
 
 // The span of link `number` of `count`.
@@ -153,14 +113,14 @@ fn link_span(count: usize, number: usize, start: usize, end: usize) -> LinkSpan
 }
 
 // Over the links that are left, the first of which stands at `at`, and over the loop, whose place is answered.
-fn past_rest(s: &[u8], e: usize, at: usize, left: usize) -> Reached
-    requires { ⌜ (at ≤ e) × ((e ≤ length (now s)) × (e ≤ 65535)) ⌝ }
-    ensures { λ r. ⌜ r ≡ reached (restVerdict left (now (s .entry)) e at) (after left (now (s .entry)) at) ⌝ }
+fn past_rest(payload: &[u8], at: u16, left: usize) -> Reached
+    requires { ⌜ at ≤ endOf (now payload) ⌝ }
+    ensures { λ r. ⌜ r ≡ reached (restVerdict left (now (payload .entry)) (endOf (now (payload .entry))) at) (after left (now (payload .entry)) at) ⌝ }
 {
-    let links = past_any_links(s, e, at, left);
+    let links = past_any_links(payload, at, left);
     match links {
         Reached::At(loop_at) => {
-            let v = loop_verdict(s, e, loop_at);
+            let v = rct_blocks::check_loop(payload, loop_at as u16);
             match v {
                 Verdict::Fine => Reached::At(loop_at),
                 Verdict::Refused(r) => Reached::Refused(r),
@@ -170,19 +130,18 @@ fn past_rest(s: &[u8], e: usize, at: usize, left: usize) -> Reached
     }
 }
 
-// The links and the loop of a section that was opened.
-fn past_payload(s: &[u8], total: usize, number: usize) -> RctWalked
-    requires { ⌜ (total ≡ totalOf (now s)) × ((least rct ≤ total) × ((total ≤ length (now s)) × (total ≤ 65535))) ⌝ }
-    ensures { λ r. ⌜ r ≡ walked (payloadVerdict (now (s .entry))) (placesAt (now (s .entry)) number) ⌝ }
+// The links and the loop of the payload of a section of `total` bytes.
+fn past_payload(payload: &[u8], total: usize, number: usize) -> RctWalked
+    requires { ⌜ headLength ≤ endOf (now payload) ⌝ }
+    ensures { λ r. ⌜ r ≡ walked (restVerdict (countAt (now (payload .entry))) (now (payload .entry)) (endOf (now (payload .entry))) headLength) (placesIn total (now (payload .entry)) number) ⌝ }
 {
-    let e = frame::payload_end(total);
-    let count = wire::wide(s[RctHeader::COUNT_AT]);
+    let count = wire::wide(payload[RctHeader::COUNT_AT]);
     let before = smaller(number, count);
     let own = smaller(count - before, 1);
-    let link = past_link(s, e, before, own);
+    let link = past_link(payload, before, own);
     match link {
         Spanned::At { start, end } => {
-            let rest = past_rest(s, e, end, count - before - own);
+            let rest = past_rest(payload, end as u16, count - before - own);
             match rest {
                 Reached::At(loop_at) => RctWalked::Read(RctPlaces {
                     total,
@@ -203,7 +162,10 @@ pub fn read_places(s: &[u8], demands: Demands, number: usize) -> RctWalked
 {
     let front = frame_opening::open(s, RctHeader::table(), demands);
     match front {
-        Reached::At(total) => past_payload(s, total, number),
+        Reached::At(total) => {
+            let end = frame::payload_end(total);
+            past_payload(&s[..end], total, number)
+        }
         Reached::Refused(r) => RctWalked::Refused(r),
     }
 }
@@ -217,7 +179,7 @@ pub fn read_loop(s: &[u8], demands: Demands) -> RctLoop
         Reached::At(total) => {
             let end = frame::payload_end(total);
             let links = wire::wide(s[RctHeader::COUNT_AT]);
-            let rest = past_rest(s, end, RctHeader::head(), links);
+            let rest = past_rest(&s[..end], RctHeader::HEAD as u16, links);
             match rest {
                 Reached::At(loop_at) => RctLoop::At {
                     total,

@@ -11,11 +11,11 @@ use field::Field;
 use field::Listed;
 use libc::STDOUT_FILENO;
 use rows::FIELD_COUNT;
-use rows::FieldRow;
+use rows::FIELD_NAMES;
 use rows::NUMBER_COUNT;
-use rows::Name;
-use rows::NumberRow;
+use rows::NUMBER_NAMES;
 use rows::field_at;
+use rows::name_at;
 use rows::number_at;
 use table::Seen;
 use table::front;
@@ -35,19 +35,21 @@ const MORE: Short = *b"more rows than the code_";
 
 const SPACE: Short = *b" _______________________";
 
-fn put_other(number: usize, name: Name) {
+fn put_other(number: usize, name: &[u8]) {
     say(OTHER);
     put_number(number);
     say(SPACE);
-    io::write_all(STDOUT_FILENO, &name);
+    io::write_all(STDOUT_FILENO, name);
     end_line();
 }
 
-// The row at a place has this number and this name.
-fn number_row(page: &[u8], at: usize, row: NumberRow) -> Seen {
-    let number = wire::wide(row.number);
-    let name = row.name;
-    let seen = past_cell(page, past_number(page, front(page, at), number), &name);
+// The row at a place has the number and the name of the code's row. The names are looked up here and not in the loop over the
+// rows, where each step of its proof would go through all of them.
+fn number_row(page: &[u8], at: usize, i: usize) -> Seen {
+    let names = NUMBER_NAMES;
+    let name = name_at(&names, i);
+    let number = wire::wide(number_at(i));
+    let seen = past_cell(page, past_number(page, front(page, at), number), name);
     if !seen.is_same {
         put_other(number, name);
     }
@@ -63,10 +65,11 @@ fn is_listed(field: Field) -> bool {
     }
 }
 
-fn field_row(page: &[u8], at: usize, row: FieldRow) -> Seen {
-    let field = row.field;
-    let name = row.name;
-    let seen = past_cell(page, past_number(page, front(page, at), field.rank), &name);
+fn field_row(page: &[u8], at: usize, i: usize) -> Seen {
+    let names = FIELD_NAMES;
+    let name = name_at(&names, i);
+    let field = field_at(i);
+    let seen = past_cell(page, past_number(page, front(page, at), field.rank), name);
     let seen = past_number(page, seen, field.widest);
     let is_same = seen.is_same & is_listed(field);
     if !is_same {
@@ -86,7 +89,7 @@ fn number_rows(page: &[u8]) -> Seen {
     };
     let mut i: usize = 0;
     while i < NUMBER_COUNT {
-        seen = number_row(page, next_row(page, seen.at), number_at(i));
+        seen = number_row(page, next_row(page, seen.at), i);
         if !seen.is_same {
             return seen;
         }
@@ -99,7 +102,7 @@ fn field_rows(page: &[u8], from: Seen) -> Seen {
     let mut seen = from;
     let mut i: usize = 0;
     while i < FIELD_COUNT {
-        seen = field_row(page, next_row(page, seen.at), field_at(i));
+        seen = field_row(page, next_row(page, seen.at), i);
         if !seen.is_same {
             return seen;
         }

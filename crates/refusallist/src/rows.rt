@@ -1,298 +1,200 @@
-// The rows of docs/REFUSALS.md's two tables as the code has them: each number and each field beside its name.
+// The rows of docs/REFUSALS.md's two tables as the code has them: the numbers and the fields, and their names in the same order.
+// Each is an array of plain numbers: of one of records every look-up would take seconds to prove.
 use field::Field;
 use wire::verdict::Refusal;
-
-// A name of the code. Dots fill it up.
-pub type Name = [u8; 24];
-
-pub struct NumberRow {
-    pub number: u8,
-    pub name: Name,
-}
-
-pub struct FieldRow {
-    pub field: Field,
-    pub name: Name,
-}
 
 // How many rows the two tables have.
 pub const NUMBER_COUNT: usize = 37;
 
 pub const FIELD_COUNT: usize = 24;
 
-// The name of no row.
-const NOTHING: Name = [b'.'; 24];
+// How many characters a name of the code has. Dots fill it up.
+const NAME: usize = 24;
 
-const NUMBERS: [NumberRow; NUMBER_COUNT] = [
-    NumberRow {
-        number: Refusal::TOO_SHORT,
-        name: *b"TOO_SHORT...............",
-    },
-    NumberRow {
-        number: Refusal::NOT_RCT,
-        name: *b"NOT_RCT.................",
-    },
-    NumberRow {
-        number: Refusal::WRONG_LENGTH,
-        name: *b"WRONG_LENGTH............",
-    },
-    NumberRow {
-        number: Refusal::ENTRY_CUT,
-        name: *b"ENTRY_CUT...............",
-    },
-    NumberRow {
-        number: Refusal::LINK_TOO_LONG,
-        name: *b"LINK_TOO_LONG...........",
-    },
-    NumberRow {
-        number: Refusal::BODY_TOO_SHORT,
-        name: *b"BODY_TOO_SHORT..........",
-    },
-    NumberRow {
-        number: Refusal::URI_LENGTH_CUT,
-        name: *b"URI_LENGTH_CUT..........",
-    },
-    NumberRow {
-        number: Refusal::URI_CUT,
-        name: *b"URI_CUT.................",
-    },
-    NumberRow {
-        number: Refusal::NO_LOCATOR,
-        name: *b"NO_LOCATOR..............",
-    },
-    NumberRow {
-        number: Refusal::LOCATOR_CUT,
-        name: *b"LOCATOR_CUT.............",
-    },
-    NumberRow {
-        number: Refusal::ITEM_COUNT_CUT,
-        name: *b"ITEM_COUNT_CUT..........",
-    },
-    NumberRow {
-        number: Refusal::ITEM_CUT,
-        name: *b"ITEM_CUT................",
-    },
-    NumberRow {
-        number: Refusal::TEXT_CUT,
-        name: *b"TEXT_CUT................",
-    },
-    NumberRow {
-        number: Refusal::ICON_CUT,
-        name: *b"ICON_CUT................",
-    },
-    NumberRow {
-        number: Refusal::DESCRIPTORS_TOO_LONG,
-        name: *b"DESCRIPTORS_TOO_LONG....",
-    },
-    NumberRow {
-        number: Refusal::LINK_SLACK,
-        name: *b"LINK_SLACK..............",
-    },
-    NumberRow {
-        number: Refusal::LOOP_CUT,
-        name: *b"LOOP_CUT................",
-    },
-    NumberRow {
-        number: Refusal::LOOP_TOO_LONG,
-        name: *b"LOOP_TOO_LONG...........",
-    },
-    NumberRow {
-        number: Refusal::SECTION_SLACK,
-        name: *b"SECTION_SLACK...........",
-    },
-    NumberRow {
-        number: Refusal::WRONG_CRC,
-        name: *b"WRONG_CRC...............",
-    },
-    NumberRow {
-        number: Refusal::NO_SUCH_NUMBER,
-        name: *b"NO_SUCH_NUMBER..........",
-    },
-    NumberRow {
-        number: Refusal::TOO_WIDE,
-        name: *b"TOO_WIDE................",
-    },
-    NumberRow {
-        number: Refusal::AGAINST_TYPE,
-        name: *b"AGAINST_TYPE............",
-    },
-    NumberRow {
-        number: Refusal::AGAINST_RULE,
-        name: *b"AGAINST_RULE............",
-    },
-    NumberRow {
-        number: Refusal::PAST_TEXT,
-        name: *b"PAST_TEXT...............",
-    },
-    NumberRow {
-        number: Refusal::SECTION_TOO_LONG,
-        name: *b"SECTION_TOO_LONG........",
-    },
-    NumberRow {
-        number: Refusal::NO_ROOM,
-        name: *b"NO_ROOM.................",
-    },
-    NumberRow {
-        number: Refusal::NO_MORE_LINKS,
-        name: *b"NO_MORE_LINKS...........",
-    },
-    NumberRow {
-        number: Refusal::NO_SYNTAX_INDICATOR,
-        name: *b"NO_SYNTAX_INDICATOR.....",
-    },
-    NumberRow {
-        number: Refusal::DESCRIPTOR_CUT,
-        name: *b"DESCRIPTOR_CUT..........",
-    },
-    NumberRow {
-        number: Refusal::NOT_RNT,
-        name: *b"NOT_RNT.................",
-    },
-    NumberRow {
-        number: Refusal::COMMON_TOO_LONG,
-        name: *b"COMMON_TOO_LONG.........",
-    },
-    NumberRow {
-        number: Refusal::PROVIDER_CUT,
-        name: *b"PROVIDER_CUT............",
-    },
-    NumberRow {
-        number: Refusal::PROVIDER_TOO_LONG,
-        name: *b"PROVIDER_TOO_LONG.......",
-    },
-    NumberRow {
-        number: Refusal::PROVIDER_NAME_CUT,
-        name: *b"PROVIDER_NAME_CUT.......",
-    },
-    NumberRow {
-        number: Refusal::PROVIDER_DESCRIPTORS_CUT,
-        name: *b"PROVIDER_DESCRIPTORS_CUT",
-    },
-    NumberRow {
-        number: Refusal::AUTHORITY_CUT,
-        name: *b"AUTHORITY_CUT...........",
-    },
+const NUMBERS: [u8; NUMBER_COUNT] = [
+    Refusal::TOO_SHORT,
+    Refusal::NOT_RCT,
+    Refusal::WRONG_LENGTH,
+    Refusal::ENTRY_CUT,
+    Refusal::LINK_TOO_LONG,
+    Refusal::BODY_TOO_SHORT,
+    Refusal::URI_LENGTH_CUT,
+    Refusal::URI_CUT,
+    Refusal::NO_LOCATOR,
+    Refusal::LOCATOR_CUT,
+    Refusal::ITEM_COUNT_CUT,
+    Refusal::ITEM_CUT,
+    Refusal::TEXT_CUT,
+    Refusal::ICON_CUT,
+    Refusal::DESCRIPTORS_TOO_LONG,
+    Refusal::LINK_SLACK,
+    Refusal::LOOP_CUT,
+    Refusal::LOOP_TOO_LONG,
+    Refusal::SECTION_SLACK,
+    Refusal::WRONG_CRC,
+    Refusal::NO_SUCH_NUMBER,
+    Refusal::TOO_WIDE,
+    Refusal::AGAINST_TYPE,
+    Refusal::AGAINST_RULE,
+    Refusal::PAST_TEXT,
+    Refusal::SECTION_TOO_LONG,
+    Refusal::NO_ROOM,
+    Refusal::NO_MORE_LINKS,
+    Refusal::NO_SYNTAX_INDICATOR,
+    Refusal::DESCRIPTOR_CUT,
+    Refusal::NOT_RNT,
+    Refusal::COMMON_TOO_LONG,
+    Refusal::PROVIDER_CUT,
+    Refusal::PROVIDER_TOO_LONG,
+    Refusal::PROVIDER_NAME_CUT,
+    Refusal::PROVIDER_DESCRIPTORS_CUT,
+    Refusal::AUTHORITY_CUT,
 ];
 
-const FIELDS: [FieldRow; FIELD_COUNT] = [
-    FieldRow {
-        field: Field::HOW_RELATED,
-        name: *b"HOW_RELATED.............",
-    },
-    FieldRow {
-        field: Field::TERM_ID,
-        name: *b"TERM_ID.................",
-    },
-    FieldRow {
-        field: Field::LINK_TYPE,
-        name: *b"LINK_TYPE...............",
-    },
-    FieldRow {
-        field: Field::LINK_TYPE_RESERVED,
-        name: *b"LINK_TYPE_RESERVED......",
-    },
-    FieldRow {
-        field: Field::GROUP_ID,
-        name: *b"GROUP_ID................",
-    },
-    FieldRow {
-        field: Field::PRECEDENCE,
-        name: *b"PRECEDENCE..............",
-    },
-    FieldRow {
-        field: Field::URI_LENGTH,
-        name: *b"URI_LENGTH..............",
-    },
-    FieldRow {
-        field: Field::START_DATE,
-        name: *b"START_DATE..............",
-    },
-    FieldRow {
-        field: Field::LOCATOR_RESERVED,
-        name: *b"LOCATOR_RESERVED........",
-    },
-    FieldRow {
-        field: Field::TRIPLET_ID,
-        name: *b"TRIPLET_ID..............",
-    },
-    FieldRow {
-        field: Field::INLINE_RESERVED,
-        name: *b"INLINE_RESERVED.........",
-    },
-    FieldRow {
-        field: Field::EARLY_START,
-        name: *b"EARLY_START.............",
-    },
-    FieldRow {
-        field: Field::LATE_END,
-        name: *b"LATE_END................",
-    },
-    FieldRow {
-        field: Field::NUMBER_ITEMS,
-        name: *b"NUMBER_ITEMS............",
-    },
-    FieldRow {
-        field: Field::NUMBER_ITEMS_RESERVED,
-        name: *b"NUMBER_ITEMS_RESERVED...",
-    },
-    FieldRow {
-        field: Field::TEXT_LENGTH,
-        name: *b"TEXT_LENGTH.............",
-    },
-    FieldRow {
-        field: Field::DESCRIPTOR_LENGTH,
-        name: *b"DESCRIPTOR_LENGTH.......",
-    },
-    FieldRow {
-        field: Field::ICON_ID,
-        name: *b"ICON_ID.................",
-    },
-    FieldRow {
-        field: Field::LINK_LENGTH_RESERVED,
-        name: *b"LINK_LENGTH_RESERVED....",
-    },
-    FieldRow {
-        field: Field::SECTION_RESERVED,
-        name: *b"SECTION_RESERVED........",
-    },
-    FieldRow {
-        field: Field::VERSION_NUMBER,
-        name: *b"VERSION_NUMBER..........",
-    },
-    FieldRow {
-        field: Field::VERSION_RESERVED,
-        name: *b"VERSION_RESERVED........",
-    },
-    FieldRow {
-        field: Field::LOOP_LENGTH,
-        name: *b"LOOP_LENGTH.............",
-    },
-    FieldRow {
-        field: Field::LOOP_LENGTH_RESERVED,
-        name: *b"LOOP_LENGTH_RESERVED....",
-    },
+pub const NUMBER_NAMES: [u8; NUMBER_COUNT * NAME] = *b"\
+    TOO_SHORT...............\
+    NOT_RCT.................\
+    WRONG_LENGTH............\
+    ENTRY_CUT...............\
+    LINK_TOO_LONG...........\
+    BODY_TOO_SHORT..........\
+    URI_LENGTH_CUT..........\
+    URI_CUT.................\
+    NO_LOCATOR..............\
+    LOCATOR_CUT.............\
+    ITEM_COUNT_CUT..........\
+    ITEM_CUT................\
+    TEXT_CUT................\
+    ICON_CUT................\
+    DESCRIPTORS_TOO_LONG....\
+    LINK_SLACK..............\
+    LOOP_CUT................\
+    LOOP_TOO_LONG...........\
+    SECTION_SLACK...........\
+    WRONG_CRC...............\
+    NO_SUCH_NUMBER..........\
+    TOO_WIDE................\
+    AGAINST_TYPE............\
+    AGAINST_RULE............\
+    PAST_TEXT...............\
+    SECTION_TOO_LONG........\
+    NO_ROOM.................\
+    NO_MORE_LINKS...........\
+    NO_SYNTAX_INDICATOR.....\
+    DESCRIPTOR_CUT..........\
+    NOT_RNT.................\
+    COMMON_TOO_LONG.........\
+    PROVIDER_CUT............\
+    PROVIDER_TOO_LONG.......\
+    PROVIDER_NAME_CUT.......\
+    PROVIDER_DESCRIPTORS_CUT\
+    AUTHORITY_CUT...........";
+
+const RANKS: [usize; FIELD_COUNT] = [
+    Field::HOW_RELATED.rank,
+    Field::TERM_ID.rank,
+    Field::LINK_TYPE.rank,
+    Field::LINK_TYPE_RESERVED.rank,
+    Field::GROUP_ID.rank,
+    Field::PRECEDENCE.rank,
+    Field::URI_LENGTH.rank,
+    Field::START_DATE.rank,
+    Field::LOCATOR_RESERVED.rank,
+    Field::TRIPLET_ID.rank,
+    Field::INLINE_RESERVED.rank,
+    Field::EARLY_START.rank,
+    Field::LATE_END.rank,
+    Field::NUMBER_ITEMS.rank,
+    Field::NUMBER_ITEMS_RESERVED.rank,
+    Field::TEXT_LENGTH.rank,
+    Field::DESCRIPTOR_LENGTH.rank,
+    Field::ICON_ID.rank,
+    Field::LINK_LENGTH_RESERVED.rank,
+    Field::SECTION_RESERVED.rank,
+    Field::VERSION_NUMBER.rank,
+    Field::VERSION_RESERVED.rank,
+    Field::LOOP_LENGTH.rank,
+    Field::LOOP_LENGTH_RESERVED.rank,
 ];
 
-// A row by its number, apart from the loop that goes over them: there the whole table would be gone through at each step of its
-// proof. Behind the last one it is a row that no page has.
-pub fn number_at(i: usize) -> NumberRow {
+const WIDESTS: [usize; FIELD_COUNT] = [
+    Field::HOW_RELATED.widest,
+    Field::TERM_ID.widest,
+    Field::LINK_TYPE.widest,
+    Field::LINK_TYPE_RESERVED.widest,
+    Field::GROUP_ID.widest,
+    Field::PRECEDENCE.widest,
+    Field::URI_LENGTH.widest,
+    Field::START_DATE.widest,
+    Field::LOCATOR_RESERVED.widest,
+    Field::TRIPLET_ID.widest,
+    Field::INLINE_RESERVED.widest,
+    Field::EARLY_START.widest,
+    Field::LATE_END.widest,
+    Field::NUMBER_ITEMS.widest,
+    Field::NUMBER_ITEMS_RESERVED.widest,
+    Field::TEXT_LENGTH.widest,
+    Field::DESCRIPTOR_LENGTH.widest,
+    Field::ICON_ID.widest,
+    Field::LINK_LENGTH_RESERVED.widest,
+    Field::SECTION_RESERVED.widest,
+    Field::VERSION_NUMBER.widest,
+    Field::VERSION_RESERVED.widest,
+    Field::LOOP_LENGTH.widest,
+    Field::LOOP_LENGTH_RESERVED.widest,
+];
+
+pub const FIELD_NAMES: [u8; FIELD_COUNT * NAME] = *b"\
+    HOW_RELATED.............\
+    TERM_ID.................\
+    LINK_TYPE...............\
+    LINK_TYPE_RESERVED......\
+    GROUP_ID................\
+    PRECEDENCE..............\
+    URI_LENGTH..............\
+    START_DATE..............\
+    LOCATOR_RESERVED........\
+    TRIPLET_ID..............\
+    INLINE_RESERVED.........\
+    EARLY_START.............\
+    LATE_END................\
+    NUMBER_ITEMS............\
+    NUMBER_ITEMS_RESERVED...\
+    TEXT_LENGTH.............\
+    DESCRIPTOR_LENGTH.......\
+    ICON_ID.................\
+    LINK_LENGTH_RESERVED....\
+    SECTION_RESERVED........\
+    VERSION_NUMBER..........\
+    VERSION_RESERVED........\
+    LOOP_LENGTH.............\
+    LOOP_LENGTH_RESERVED....";
+
+// A number and a field by its row. Behind the last one it is what no page has.
+pub fn number_at(i: usize) -> u8 {
     if NUMBER_COUNT <= i {
-        return NumberRow {
-            number: 0,
-            name: NOTHING,
-        };
+        return 0;
     }
     let all = NUMBERS;
     all[i]
 }
 
-pub fn field_at(i: usize) -> FieldRow {
+pub fn field_at(i: usize) -> Field {
     if FIELD_COUNT <= i {
-        return FieldRow {
-            field: Field { rank: 0, widest: 0 },
-            name: NOTHING,
-        };
+        return Field { rank: 0, widest: 0 };
     }
-    let all = FIELDS;
-    all[i]
+    let ranks = RANKS;
+    let widests = WIDESTS;
+    Field {
+        rank: ranks[i],
+        widest: widests[i],
+    }
+}
+
+// The name of a row among those of its table.
+pub fn name_at(names: &[u8], i: usize) -> &[u8] {
+    if names.len() / NAME <= i {
+        return &names[..0];
+    }
+    &names[i * NAME..i * NAME + NAME]
 }

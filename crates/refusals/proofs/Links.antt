@@ -5,7 +5,10 @@ use mathlib.Core.Path.{_≡_, refl}
 use mathlib.Core.List.{List, [], _∷_}
 use lib.ListN.{drop}
 use Rattle.wire.specs.Refusals.{tooWide, againstRule, pastText, descriptorCut}
+use Rattle.wire.specs.Verdict.{reached}
 use Rattle.wire.specs.declared.verdict.Refusal.{Refusal}
+use Rattle.wire.specs.declared.verdict.Reached.the-variants as reach
+use Rattle.wire.proofs.Verdicts.{reached-refused}
 use Rattle.field.specs.Fields.{checkField}
 use Rattle.field.specs.declared.Field.{Field}
 use Rattle.field.proofs.Checks.{field-listed}
@@ -19,7 +22,7 @@ use Rattle.locator.specs.declared.DvbBinaryLocator.{DvbBinaryLocator}
 use Rattle.locator.specs.declared.reading.LocatorSize.the-variants as size
 use Rattle.locator.specs.declared.reading.LocatorRead.the-variants as locator
 use Rattle.locator.proofs.Listed.{locatorReading, size-listed, read-listed, fields-listed, windows-listed}
-use Rattle.link.specs.Reading.{bodyVerdict}
+use Rattle.link.specs.Reading.{itemEnd, itemPlace, itemVerdict, itemsVerdict, bodyVerdict}
 use Rattle.link.specs.Answers.{linkRead, fieldsRead, itemRead, itemFrom}
 use Rattle.link.specs.declared.LinkInfo.{LinkInfo}
 use Rattle.link.specs.declared.Range.{Range}
@@ -27,9 +30,9 @@ use Rattle.link.specs.declared.reading.FieldsRead.the-variants as fields
 use Rattle.link.specs.declared.reading.ItemRead.the-variants as item
 use Rattle.link.specs.declared.reading.ItemStep.the-variants as step
 use Rattle.link.proofs.Listed as link
-use Rattle.link_reader.specs.Places.{bodyPlaces}
-use Rattle.link_reader.specs.declared.BodyPlaces.the-variants as places
-use Rattle.link_reader.proofs.Places.{places-refused}
+use Rattle.link_walker.specs.Places.{bodyPlaces}
+use Rattle.link_walker.specs.declared.BodyPlaces.the-variants as places
+use Rattle.link_walker.proofs.Places.{places-refused}
 use Rattle.link_items.specs.Steps.{stepped, itemAfter, numberAfter}
 use Rattle.link_draft.specs.Checks.{checkRange, linkChecked}
 use Rattle.link_draft.proofs.Listed.{linkChecks, range-listed, checked-listed}
@@ -73,6 +76,12 @@ read-link-given base reserved xs = given link.bodyReading _ refl (link.link-list
 
 pub read-item-given : (base : ℕ) (xs : List ℕ) (i : ℕ) (r : Refusal) → itemRead base xs i ≡ item.Refused r → OnList r
 read-item-given base xs i r e = on-list link.itemReading r refl (link.item-read-listed base xs i r e)
+
+pub past-item-given : (xs : List ℕ) (p : ℕ) (r : Refusal) → reached (itemVerdict xs p) (itemEnd xs p) ≡ reach.Refused r → OnList r
+past-item-given xs p r e = on-list link.stepReading r refl (link.item-listed xs p r (reached-refused _ _ r e))
+
+pub past-items-given : (n : ℕ) (xs : List ℕ) (p : ℕ) (r : Refusal) → reached (itemsVerdict n xs p) (itemPlace n xs p) ≡ reach.Refused r → OnList r
+past-items-given n xs p r e = on-list link.stepReading r refl (link.items-listed n xs p r (reached-refused _ _ r e))
 
 pub item-from-given : (xs : List ℕ) (p : ℕ) (r : Refusal) → itemFrom xs p ≡ step.Refused r → OnList r
 item-from-given xs p r e = on-list link.stepReading r refl (link.step-listed xs p r e)

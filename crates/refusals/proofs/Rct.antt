@@ -20,14 +20,17 @@ use Rattle.rct.specs.Syntax.{rct}
 use Rattle.rct.specs.Reading.{entryRows, loopVerdict, reading, plain, checked}
 use Rattle.rct.specs.declared.RctHeader.{RctHeader}
 use Rattle.rct.proofs.Listed.{plainReading, demandedReading, checkedReading, entryReading}
-use Rattle.rct_walker.specs.Places.{placesAt, walked, loopFound, endOf}
+use Rattle.rct_blocks.specs.Ends.{endOf}
+use Rattle.rct_blocks.proofs.Listed.{lengthReading, past-entry-length-listed}
+use Rattle.rct_walker.specs.Places.{placesAt, walked, loopFound}
 use Rattle.rct_walker.specs.declared.RctLoop.the-variants as whole
 use Rattle.rct_walker.specs.declared.RctWalked.the-variants as walk
-use Rattle.rct_walker.proofs.Listed.{lengthReading, read-places-listed, read-loop-listed, past-entry-length-listed}
+use Rattle.rct_walker.proofs.Listed.{read-places-listed, read-loop-listed}
 use Rattle.rct_entries.specs.Entries.{entryRead}
 use Rattle.rct_entries.specs.declared.EntryRead.the-variants as entry
 use Rattle.rct_entries.proofs.Listed.{entry-read-listed}
-use Rattle.rct_readings.proofs.Listed.{plain-places-listed, checked-places-listed, plain-loop-listed, checked-loop-listed}
+use Rattle.rct_readings.proofs.Listed.{plain-places-listed, checked-places-listed}
+use Rattle.rct_loops.proofs.Listed.{plain-loop-listed, checked-loop-listed}
 use Rattle.rct_reader.specs.Sections.{sectionRead}
 use Rattle.rct_reader.proofs.Listed.{read-section-listed, check-section-listed}
 use Rattle.rct_bodies.specs.Bodies.{numberedBody}

@@ -12,13 +12,13 @@ use Rattle.wire.specs.declared.verdict.Verdict.{Verdict}
 use Rattle.wire.specs.declared.verdict.Verdict.the-variants.{Fine, Refused}
 use Rattle.spans.proofs.SpanLaws.{span-inside}
 use Rattle.frame.specs.Reading.{payloadEnd, plainDemands}
-use Rattle.rnt.specs.Syntax.{Authority, Provider}
-use Rattle.rnt.specs.Reading.{providerAt, sectionAt, plain, providerRows, authorityRows}
+use Rattle.rnt.specs.Syntax.{Provider}
+use Rattle.rnt.specs.Reading.{providerAt, sectionAt, plain, providerRows}
 use Rattle.rnt.proofs.Accepted.{accepted}
-use Rattle.rnt.proofs.Numbers.{provider-rows, authority-rows, provider-passed, authority-within, provider-is, authority-is}
+use Rattle.rnt.proofs.Numbers.{provider-rows, provider-passed, provider-is}
 use Rattle.rnt_reader.specs.Sections.{sectionRead}
-use Rattle.rnt_providers.specs.Providers.{providerBy, authorityBy, numberedProvider, numberedAuthority}
-use Rattle.rnt_parts.specs.Parts.{commonOf, providerNameOf, providerDescriptorsOf, authorityNameOf, authorityDescriptorsOf, commonSpan, providerName, providerDescriptors, authorityName, authorityDescriptors}
+use Rattle.rnt_providers.specs.Providers.{providerBy, numberedProvider}
+use Rattle.rnt_parts.specs.Parts.{commonOf, providerNameOf, providerDescriptorsOf, commonSpan, providerName, providerDescriptors}
 
 -- ---- what each span is: the record's, by the verdict of its call
 
@@ -44,33 +44,13 @@ module _ (xs : List ℕ) where
     unfolding providerNameOf providerDescriptorsOf numberedProvider providerBy
     provider-none r v = (rw v, rw v)
 
-    module _ (j : ℕ) where
-      pub authority-name-had : (d : Provider) (a : Authority) → authorityRows xs k j ≡ Fine → spanOf xs (authorityName xs k j) ≡ getD (getD (sectionAt xs .providers) k d .authorities) j a .name
-      unfolding authorityNameOf numberedAuthority authorityBy
-      authority-name-had d a v =
-          let o = authority-rows xs k j v in
-          let q = provider-rows xs k (o .0) in
-          rw (v, provider-is xs (q .0) k (q .1) d, authority-is xs (q .0) k (q .1) j (o .1) a)
-
-      pub authority-descriptors-had : (d : Provider) (a : Authority) → authorityRows xs k j ≡ Fine
-          → spanOf xs (authorityDescriptors xs k j) ≡ getD (getD (sectionAt xs .providers) k d .authorities) j a .descriptors
-      unfolding authorityDescriptorsOf numberedAuthority authorityBy
-      authority-descriptors-had d a v =
-          let o = authority-rows xs k j v in
-          let q = provider-rows xs k (o .0) in
-          rw (v, provider-is xs (q .0) k (q .1) d, authority-is xs (q .0) k (q .1) j (o .1) a)
-
-      pub authority-none : (r : Refusal) → authorityRows xs k j ≡ Refused r → (authorityName xs k j ≡ span 0 0) × (authorityDescriptors xs k j ≡ span 0 0)
-      unfolding authorityNameOf authorityDescriptorsOf numberedAuthority authorityBy
-      authority-none r v = (rw v, rw v)
-
   -- ---- inside
 
-  payload-inside : plain xs ≡ Fine → payloadEnd xs ≤ length xs
+  pub payload-inside : plain xs ≡ Fine → payloadEnd xs ≤ length xs
   payload-inside v = let o = accepted plainDemands xs v .frame in omega (arith, o .within)
 
   -- a span that lies within where the verdict is fine, and else is nothing
-  by-verdict : (v : Verdict) (s : Span) → (v ≡ Fine → s .start + s .length ≤ length xs) → ((r : Refusal) → v ≡ Refused r → s ≡ span 0 0) → spanIn xs s ≡ s
+  pub by-verdict : (v : Verdict) (s : Span) → (v ≡ Fine → s .start + s .length ≤ length xs) → ((r : Refusal) → v ≡ Refused r → s ≡ span 0 0) → spanIn xs s ≡ s
   by-verdict Fine s f g = span-inside xs s (f refl)
   by-verdict (Refused r) s f g = let z = g r refl in span-inside xs s (rw z (omega arith))
 
@@ -101,24 +81,3 @@ module _ (xs : List ℕ) where
 
     pub provider-descriptors-inside : spanIn xs (providerDescriptors xs k) ≡ providerDescriptors xs k
     provider-descriptors-inside = by-verdict (providerRows xs k) (providerDescriptors xs k) descriptors-fine (λ r v. provider-none k r v .1)
-
-    module _ (j : ℕ) where
-      authority-name-fine : authorityRows xs k j ≡ Fine → authorityName xs k j .start + authorityName xs k j .length ≤ length xs
-      unfolding authorityNameOf numberedAuthority authorityBy
-      authority-name-fine v =
-          let o = authority-rows xs k j v in
-          let q = provider-rows xs k (o .0) in
-          rw v (omega (arith, authority-within xs (q .0) k (q .1) j (o .1), payload-inside (q .0)))
-
-      pub authority-name-inside : spanIn xs (authorityName xs k j) ≡ authorityName xs k j
-      authority-name-inside = by-verdict (authorityRows xs k j) (authorityName xs k j) authority-name-fine (λ r v. authority-none k j r v .0)
-
-      authority-descriptors-fine : authorityRows xs k j ≡ Fine → authorityDescriptors xs k j .start + authorityDescriptors xs k j .length ≤ length xs
-      unfolding authorityDescriptorsOf numberedAuthority authorityBy
-      authority-descriptors-fine v =
-          let o = authority-rows xs k j v in
-          let q = provider-rows xs k (o .0) in
-          rw v (omega (arith, authority-within xs (q .0) k (q .1) j (o .1), payload-inside (q .0)))
-
-      pub authority-descriptors-inside : spanIn xs (authorityDescriptors xs k j) ≡ authorityDescriptors xs k j
-      authority-descriptors-inside = by-verdict (authorityRows xs k j) (authorityDescriptors xs k j) authority-descriptors-fine (λ r v. authority-none k j r v .1)

@@ -11,10 +11,6 @@ use Rattle.rnt_parts.proofs.provider_name.Kinds as provider-name-kinds
 use Rattle.rnt_parts.proofs.provider_name.Reads as provider-name-reads
 use Rattle.rnt_parts.proofs.provider_descriptors.Kinds as provider-descriptors-kinds
 use Rattle.rnt_parts.proofs.provider_descriptors.Reads as provider-descriptors-reads
-use Rattle.rnt_parts.proofs.authority_name.Kinds as authority-name-kinds
-use Rattle.rnt_parts.proofs.authority_name.Reads as authority-name-reads
-use Rattle.rnt_parts.proofs.authority_descriptors.Kinds as authority-descriptors-kinds
-use Rattle.rnt_parts.proofs.authority_descriptors.Reads as authority-descriptors-reads
 
 pub common-descriptors-one : OneAs common-descriptors-kinds.ps common-descriptors-kinds.r (λ κs. (ℕ × ℕ) × List ℕ) (λ κs x. (ptr x, now x)) common-descriptors-reads.Asked common-descriptors-reads.Learnt
 common-descriptors-one = record { total = λ κs a. tt; one = λ κs a x y v w p q. (pair (both (p .1) (q .1)) (both (p .0) (q .0)), refl) }
@@ -24,9 +20,3 @@ provider-name-one = record { total = λ κs a. tt; one = λ κs a x y v w p q. (
 
 pub provider-descriptors-one : OneAs provider-descriptors-kinds.ps provider-descriptors-kinds.r (λ κs. (ℕ × ℕ) × List ℕ) (λ κs x. (ptr x, now x)) provider-descriptors-reads.Asked provider-descriptors-reads.Learnt
 provider-descriptors-one = record { total = λ κs a. tt; one = λ κs a x y v w p q. (pair (both (p .1) (q .1)) (both (p .0) (q .0)), refl) }
-
-pub authority-name-one : OneAs authority-name-kinds.ps authority-name-kinds.r (λ κs. (ℕ × ℕ) × List ℕ) (λ κs x. (ptr x, now x)) authority-name-reads.Asked authority-name-reads.Learnt
-authority-name-one = record { total = λ κs a. tt; one = λ κs a x y v w p q. (pair (both (p .1) (q .1)) (both (p .0) (q .0)), refl) }
-
-pub authority-descriptors-one : OneAs authority-descriptors-kinds.ps authority-descriptors-kinds.r (λ κs. (ℕ × ℕ) × List ℕ) (λ κs x. (ptr x, now x)) authority-descriptors-reads.Asked authority-descriptors-reads.Learnt
-authority-descriptors-one = record { total = λ κs a. tt; one = λ κs a x y v w p q. (pair (both (p .1) (q .1)) (both (p .0) (q .0)), refl) }

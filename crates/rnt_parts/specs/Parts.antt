@@ -1,4 +1,4 @@
--- The parts that are handed back, as spans of the section: what the records of the calls say, and nothing at its start where a call refuses.
+-- The common descriptors and the parts of a provider that are handed back, as spans of the section: what the records of the calls say, and nothing at its start where a call refuses.
 -- Assumes nothing.
 use Prim.Native.Nat.{ℕ}
 use mathlib.Core.List.{List}
@@ -8,11 +8,9 @@ use Rattle.rnt.specs.Reading.{plain}
 use Rattle.rnt_reader.specs.Sections.{sectionRead}
 use Rattle.rnt_reader.specs.declared.RntRead.{RntRead}
 use Rattle.rnt_reader.specs.declared.RntRead.the-variants as read
-use Rattle.rnt_providers.specs.Providers.{numberedProvider, numberedAuthority}
+use Rattle.rnt_providers.specs.Providers.{numberedProvider}
 use Rattle.rnt_providers.specs.declared.ProviderRead.{ProviderRead}
 use Rattle.rnt_providers.specs.declared.ProviderRead.the-variants as provider
-use Rattle.rnt_providers.specs.declared.AuthorityRead.{AuthorityRead}
-use Rattle.rnt_providers.specs.declared.AuthorityRead.the-variants as authority
 
 -- ---- of an answer
 
@@ -28,14 +26,6 @@ unfoldable pub providerDescriptorsOf : ProviderRead → Span
 providerDescriptorsOf (provider.Got k n) = k .descriptors
 providerDescriptorsOf (provider.Refused r) = span 0 0
 
-unfoldable pub authorityNameOf : AuthorityRead → Span
-authorityNameOf (authority.Got k) = k .name
-authorityNameOf (authority.Refused r) = span 0 0
-
-unfoldable pub authorityDescriptorsOf : AuthorityRead → Span
-authorityDescriptorsOf (authority.Got k) = k .descriptors
-authorityDescriptorsOf (authority.Refused r) = span 0 0
-
 -- ---- of a section
 
 abbrev pub commonSpan : List ℕ → Span
@@ -46,9 +36,3 @@ providerName xs k = providerNameOf (numberedProvider xs k)
 
 abbrev pub providerDescriptors : List ℕ → ℕ → Span
 providerDescriptors xs k = providerDescriptorsOf (numberedProvider xs k)
-
-abbrev pub authorityName : List ℕ → ℕ → ℕ → Span
-authorityName xs k j = authorityNameOf (numberedAuthority xs k j)
-
-abbrev pub authorityDescriptors : List ℕ → ℕ → ℕ → Span
-authorityDescriptors xs k j = authorityDescriptorsOf (numberedAuthority xs k j)

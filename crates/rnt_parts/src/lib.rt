@@ -1,16 +1,16 @@
-// The parts of a section that are handed back: each is that part of the lent slice itself, or nothing where there is none.
+// The common descriptors and the parts of a provider that are handed back: each is that part of the lent slice itself, or nothing where there is none.
 // Why there is none, the readings and the calls by number answer.
 ghost use mathlib.Core.Path.{_≡_};
 ghost use Rattle.wire.specs.Lists.{within};
 ghost use Rattle.spans.specs.Spans.{spanOf};
-ghost use Rattle.rnt_parts.specs.Parts.{commonOf, providerNameOf, providerDescriptorsOf, authorityNameOf, authorityDescriptorsOf, commonSpan, providerName, providerDescriptors, authorityName, authorityDescriptors};
-use rnt_providers::AuthorityRead;
+ghost use Rattle.rnt_parts.specs.Parts.{commonOf, providerNameOf, providerDescriptorsOf, commonSpan, providerName, providerDescriptors};
 use rnt_providers::ProviderRead;
 use rnt_reader::RntRead;
 use spans::Span;
 use spans::handed;
 
-const NOTHING: Span = Span {
+// What is handed back where there is no such part: nothing, at the section's start.
+pub const NOTHING: Span = Span {
     start: 0,
     length: 0,
 };
@@ -48,24 +48,6 @@ fn provider_descriptors_of(read: ProviderRead) -> Span
     }
 }
 
-fn authority_name_of(read: AuthorityRead) -> Span
-    ensures { λ r. ⌜ r ≡ authorityNameOf read ⌝ }
-{
-    match read {
-        AuthorityRead::Got(authority) => authority.name,
-        AuthorityRead::Refused(_) => NOTHING,
-    }
-}
-
-fn authority_descriptors_of(read: AuthorityRead) -> Span
-    ensures { λ r. ⌜ r ≡ authorityDescriptorsOf read ⌝ }
-{
-    match read {
-        AuthorityRead::Got(authority) => authority.descriptors,
-        AuthorityRead::Refused(_) => NOTHING,
-    }
-}
-
 // The section's common descriptors.
 pub fn common_descriptors(s: &[u8]) -> &[u8]
     ensures { λ r. ⌜ now r ≡ spanOf (now (s .entry)) (commonSpan (now (s .entry))) ⌝ }
@@ -90,27 +72,5 @@ pub fn provider_descriptors(s: &[u8], number: usize) -> &[u8]
     handed(
         s,
         provider_descriptors_of(rnt_providers::read_provider(s, number)),
-    )
-}
-
-// The name of an authority by number, of a provider by number.
-pub fn authority_name(s: &[u8], number: usize, authority: usize) -> &[u8]
-    ensures { λ r. ⌜ now r ≡ spanOf (now (s .entry)) (authorityName (now (s .entry)) number authority) ⌝ }
-    ensures { λ r. ⌜ r .ptr ≡ within (s .entry .ptr) (authorityName (now (s .entry)) number authority .start) ⌝ }
-{
-    handed(
-        s,
-        authority_name_of(rnt_providers::read_authority(s, number, authority)),
-    )
-}
-
-// The descriptors of an authority by number, of a provider by number.
-pub fn authority_descriptors(s: &[u8], number: usize, authority: usize) -> &[u8]
-    ensures { λ r. ⌜ now r ≡ spanOf (now (s .entry)) (authorityDescriptors (now (s .entry)) number authority) ⌝ }
-    ensures { λ r. ⌜ r .ptr ≡ within (s .entry .ptr) (authorityDescriptors (now (s .entry)) number authority .start) ⌝ }
-{
-    handed(
-        s,
-        authority_descriptors_of(rnt_providers::read_authority(s, number, authority)),
     )
 }

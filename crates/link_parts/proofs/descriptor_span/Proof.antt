@@ -3,7 +3,7 @@ use Rattle.link.proofs.Nothing.{no-descriptors-refused}
 use Rattle.link.proofs.Parts.{descriptors-left, tail-inside}
 use Rattle.link_parts.proofs.descriptor_span.Statement.{statement}
 use Rattle.link_parts.proofs.descriptor_span.Tie as tie
-use Rattle.link_reader.proofs.Places.{places-at, places-refused}
+use Rattle.link_walker.proofs.Places.{places-at, places-refused}
 use borrow.Author.Needs.{needs}
 use mathlib.Core.Path.{sym, _∙_}
 use native.Mathlib.Omega.{arith}

@@ -3,7 +3,7 @@ use Rattle.link.proofs.Nothing.{no-uri-refused}
 use Rattle.link.proofs.Parts.{uri-ends, uri-ends-not}
 use Rattle.link_parts.proofs.uri_span.Statement.{statement}
 use Rattle.link_parts.proofs.uri_span.Tie as tie
-use Rattle.link_reader.proofs.Places.{places-at, places-refused}
+use Rattle.link_walker.proofs.Places.{places-at, places-refused}
 use borrow.Author.Needs.{needs}
 use mathlib.Core.Path.{sym, _∙_}
 

@@ -1,8 +1,9 @@
 -- `items_of` meets its contract. Assumes nothing.
-use Prim.Native.Nat.{_-_}
-use mathlib.Core.Path.{_≡_}
+use Prim.Native.Nat.{_+_, _-_}
+use mathlib.Core.Path.{_≡_, ap}
 use native.Mathlib.Omega.{arith}
 use Rattle.wire.proofs.Lists.{bytes-known}
+use Rattle.link.specs.Syntax.{itemHead}
 use Rattle.link.specs.Reading.{itemsPlace}
 use Rattle.link_reader.proofs.Filled.{Filled, filled-none, filled-within, filled-turn, filled-all}
 use Rattle.link_reader.proofs.items_of.Statement.{statement}
@@ -33,35 +34,30 @@ item-at-requires c κs =
     filled-within (args .base) _ _ _ _ _ _ (c .before .loop .inv) (c .loop-test .taken) (omega arith)
 
 mul-items : tie.Need-mul-items Inv-loop μ-loop
-mul-items c =
-    let loop = c .before .before .loop in
-    omega (arith, loop .inv .few)
+mul-items c = omega (arith, c .before .before .before .loop .inv .few)
 
 array-set-from-items : tie.Need-array-set-from-items Inv-loop μ-loop
-array-set-from-items c =
-    let loop = c .before .before .loop in
-    omega (arith, loop .inv .few)
+array-set-from-items c = omega (arith, c .before .before .before .loop .inv .few)
 
-item-end-requires : tie.Need-item-end-requires Inv-loop μ-loop
-item-end-requires c κs =
-    let args = c .before .before .before .before .before .args in
-    let loop = c .before .before .loop in
-    filled-within (args .base) _ _ _ _ _ _ (loop .inv) (c .before .loop-test .taken) (omega arith) .0
+add-p : tie.Need-add-p Inv-loop μ-loop
+add-p c = omega (arith, filled-within (c .before .before .before .before .before .before .args .base) _ _ _ _ _ _ (c .before .before .before .loop .inv) (c .before .before .loop-test .taken) (omega arith) .0)
+
+cast-p : tie.Need-cast-p Inv-loop μ-loop
+cast-p c = omega arith
+
+add-p-2 : tie.Need-add-p-2 Inv-loop μ-loop
+add-p-2 c = omega (arith, filled-within (c .before .before .before .before .before .before .before .args .base) _ _ _ _ _ _ (c .before .before .before .before .loop .inv) (c .before .before .before .loop-test .taken) (omega arith) .0)
 
 add-i : tie.Need-add-i Inv-loop μ-loop
-add-i c =
-    let loop = c .before .before .before .loop in
-    omega (arith, loop .inv .few)
+add-i c = omega (arith, c .before .before .before .before .loop .inv .few)
 
 loop-less : tie.Need-loop-less Inv-loop μ-loop
 loop-less c = omega arith
 
 loop-again : tie.Need-loop-again Inv-loop μ-loop
 loop-again c =
-    let args = c .before .before .before .before .before .before .args in
-    let loop = c .before .before .before .loop in
-    let loop-test = c .before .before .loop-test in
-    filled-turn (args .base) _ _ _ _ _ _ (loop .inv) (loop-test .taken) _ _ (c .before .item-at .ensures) (c .item-end .ensures)
+    let item = c .before .before .item-at .ensures in
+    filled-turn (c .before .before .before .before .before .before .before .args .base) _ _ _ _ _ _ (c .before .before .before .before .loop .inv) (c .before .before .before .loop-test .taken) _ _ item (ap (λ i. c .before .before .before .before .loop .p + itemHead + i .«promotional_text» .length) item)
 
 returns : tie.Need-returns Inv-loop μ-loop
 returns c =
@@ -80,7 +76,9 @@ items-of-spec =
     item-at-requires
     mul-items
     array-set-from-items
-    item-end-requires
+    add-p
+    cast-p
+    add-p-2
     add-i
     loop-less
     loop-again

@@ -1,6 +1,6 @@
 -- `read_item` meets its contract. Assumes nothing.
 use Rattle.link.proofs.Bounds.{item-stop}
-use Rattle.link_reader.proofs.Places.{places-at, places-refused}
+use Rattle.link_walker.proofs.Places.{places-at, places-refused}
 use Rattle.link_reader.proofs.read_item.Statement.{statement}
 use Rattle.link_reader.proofs.read_item.Tie as tie
 use borrow.Author.Needs.{needs}

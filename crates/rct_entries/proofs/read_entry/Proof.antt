@@ -1,7 +1,7 @@
 -- `read_entry` meets its contract: what was passed of the length field says where the body ends. Assumes nothing.
 use mathlib.Core.Path.{sym, _∙_}
 use Rattle.wire.proofs.Verdicts.{reached-refused}
-use Rattle.rct_walker.proofs.Walks.{length-passed, entry-stop}
+use Rattle.rct_blocks.proofs.Entries.{length-passed, entry-stop}
 use Rattle.rct_entries.proofs.EntryLaws.{entry-refused, entry-read, entry-not}
 use borrow.Author.Needs.{needs}
 use Rattle.rct_entries.proofs.read_entry.Statement.{statement}

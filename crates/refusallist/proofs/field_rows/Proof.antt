@@ -12,4 +12,4 @@ abbrev μ-loop : tie.MeasureT-loop
 
 pub field-rows-spec : {M : Type 1} → statement M
 field-rows-spec =
-    tie.close (tie.spec Inv-loop μ-loop (search needs) (search needs) (search needs) (search needs) (search needs) (search needs) (search needs) (search needs) (search needs))
+    tie.close (tie.spec Inv-loop μ-loop (search needs) (search needs) (search needs) (search needs) (search needs) (search needs) (search needs) (search needs))

@@ -1,6 +1,6 @@
 -- `eallunsa_rct_check` meets its contract. Assumes nothing.
 use mathlib.Core.Path.{_∙_, ap}
-use Rattle.flat_answers.specs.Sections.{rctAnswer}
+use Rattle.flat_sections.specs.Sections.{rctAnswer}
 use borrow.Author.Needs.{needs}
 use Rattle.eallunsa.proofs.related.eallunsa_rct_check.Statement.{statement}
 use Rattle.eallunsa.proofs.related.eallunsa_rct_check.Tie as tie

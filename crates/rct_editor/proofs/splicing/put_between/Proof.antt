@@ -3,10 +3,10 @@ use Prim.Native.Nat.{_+_, _-_}
 use mathlib.Core.Path.{_≡_, sym, ap, _∙_}
 use native.Mathlib.Omega.{arith}
 use lib.ListN.{length}
-use lib.Seq.{length-sets}
 use Rattle.byte_moves.proofs.Exact.{moved-length}
 use Rattle.frame.specs.Syntax.{uncounted}
 use Rattle.rct_edit.proofs.Outcomes.{room-passed}
+use Rattle.rct_stores.proofs.Exact.{numbers-whole, fills}
 use Rattle.rct_editor.proofs.Outcomes.{between-own, between-room, between-done, fitting}
 use Rattle.rct_editor.proofs.Sizes.{own-refused, owned, total-within, still-within, tail-moves}
 use Rattle.rct_editor.proofs.Stores.{spliced-put, finished-put}
@@ -108,19 +108,11 @@ put-entry-requires c κs =
     let f = fitting (args .b .now) (args .from) (args .to) (args .count) (args .text .now) (args .link) (o .fine) _ (o .is) (sym (check-room .ensures) ∙ enum-told3 .given .1) in
     (o .fine, (o .size, (omega (arith, o .size, f .is, f .fit), omega (arith, f .enough, ap length (move-within .ensures .1) ∙ moved-length (args .b .now) _ _ _))))
 
+cast-put-numbers : tie.Need-cast-put-numbers
+cast-put-numbers c = omega (arith, c .before .before .before .before .before .before .before .before .before .before .before .before .before .before .before .before .before .before .pre .1 .1)
+
 put-numbers-requires : tie.Need-put-numbers-requires
-put-numbers-requires c κs =
-    let args = c .before .before .before .before .before .before .before .before .before .before .before .before .before .before .before .before .before .before .args in
-    let check-link = c .before .before .before .before .before .before .before .before .before .before .before .before .before .before .before .check-link in
-    let enum-told = c .before .before .before .before .before .before .before .before .before .before .before .before .before .enum-told in
-    let pre = c .before .before .before .before .before .before .before .before .before .before .before .before .before .before .before .before .before .before .pre in
-    let check-room = c .before .before .before .before .before .before .before .before .before .before .before .before .check-room in
-    let enum-told3 = c .before .before .before .before .before .before .before .before .before .before .enum-told3 in
-    let put-entry = c .before .before .before .put-entry in
-    let move-within = c .before .before .before .before .before .before .before .move-within in
-    let o = owned (args .b .now) (args .from) (args .to) (args .text .now) (args .link) (args .total) _ (check-link .ensures) (enum-told .given .1) (pre .1 .0) in
-    let f = fitting (args .b .now) (args .from) (args .to) (args .count) (args .text .now) (args .link) (o .fine) _ (o .is) (sym (check-room .ensures) ∙ enum-told3 .given .1) in
-    (omega (arith, simp length-sets at (ap length (put-entry .ensures)), ap length (move-within .ensures .1) ∙ moved-length (args .b .now) _ _ _), (omega (arith, f .fit), pre .1 .1))
+put-numbers-requires c κs = search needs
 
 add-payload-end : tie.Need-add-payload-end
 add-payload-end c =
@@ -135,13 +127,7 @@ seal-requires : tie.Need-seal-requires
 seal-requires c κs = search needs
 
 fill-requires : tie.Need-fill-requires
-fill-requires c κs =
-    let pre = c .before .before .before .before .before .before .before .before .before .before .before .before .before .before .before .before .before .before .before .before .before .before .before .before .before .before .before .pre in
-    let b = c .before .before .before .before .before .before .before .before .before .before .before .before .before .before .before .b in
-    let b2 = c .before .before .before .before .before .before .before .before .before .before .before .b2 in
-    let b3 = c .before .before .before .before .before .before .before .b3 in
-    let b4 = c .before .before .b4 in
-    still-within _ _ _ _ _ _ (total-within _ _ _ _ (pre .0) (pre .1 .0)) (b .given) (b2 .given) (b3 .given) (b4 .given)
+fill-requires c κs = search needs
 
 accepted-requires : tie.Need-accepted-requires
 accepted-requires c κs = search needs
@@ -170,8 +156,10 @@ returns-3 c =
     let len = args .total - uncounted - (args .to - args .from) + 2 + check-link .result .length in
     let f = fitting xs (args .from) (args .to) (args .count) (args .text .now) (args .link) (o .fine) _ (o .is) room in
     let tail = move-within .ensures .1 ∙ sym (tail-moves xs (args .from) (args .to) (args .text .now) (args .link) (args .total) _ _ _ (pre .0) (o .size) f (pre .1 .0) (payload-end .ensures)) in
-    let spliced = spliced-put xs _ _ _ (args .from) (args .to) (args .count) (args .text .now) (args .link) (args .from + 2 + check-link .result .length) (payload-end .result - args .to) len (o .fine) tail (put-entry .ensures) (put-numbers .ensures) (omega (arith, o .size)) (omega (arith, payload-end .ensures, pre .1 .0)) in
-    let done = finished-put xs _ _ _ (args .from) (args .to) (args .count) (args .text .now) (args .link) len (payload-end2 .result) (seal .result) (args .total) (room-passed _ _ room .enough) spliced (seal .ensures .1) (fill .ensures) (o .is) (payload-end2 .ensures) (seal .ensures .0) (pre .1 .0) in
+    let numbers = put-numbers .ensures ∙ numbers-whole _ _ _ (omega (arith, f .enough, c .before .before .before .before .before .before .before .before .before .before .before .before .before .before .before .before .before .before .before .b .given, c .before .before .before .before .before .before .before .before .before .before .before .before .before .before .before .b2 .given)) (omega (arith, f .fit)) in
+    let spliced = spliced-put xs _ _ _ (args .from) (args .to) (args .count) (args .text .now) (args .link) (args .from + 2 + check-link .result .length) (payload-end .result - args .to) len (o .fine) tail (put-entry .ensures) numbers (omega (arith, o .size)) (omega (arith, payload-end .ensures, pre .1 .0)) in
+    let filled = fill .ensures ∙ fills _ _ _ (still-within _ _ _ _ _ _ (total-within _ _ _ _ (pre .0) (pre .1 .0)) (c .before .before .before .before .before .before .before .before .before .before .before .before .before .before .before .before .before .before .before .b .given) (c .before .before .before .before .before .before .before .before .before .before .before .before .before .before .before .b2 .given) (c .before .before .before .before .before .before .before .before .before .before .before .b3 .given) (c .before .before .before .before .before .before .b4 .given)) in
+    let done = finished-put xs _ _ _ (args .from) (args .to) (args .count) (args .text .now) (args .link) len (payload-end2 .result) (seal .result) (args .total) (room-passed _ _ room .enough) spliced (seal .ensures .1) filled (o .is) (payload-end2 .ensures) (seal .ensures .0) (pre .1 .0) in
     between-done xs (args .from) (args .to) (args .count) (args .text .now) (args .link) (o .fine) _ (o .is) _ _ _ room (done .1) (done .0) (c .accepted .ensures)
 
 pub put-between-spec : {M : Type 1} → statement M
@@ -199,6 +187,7 @@ put-between-spec =
     sub-move-within
     move-within-requires
     put-entry-requires
+    cast-put-numbers
     put-numbers-requires
     add-payload-end
     payload-end-requires-2

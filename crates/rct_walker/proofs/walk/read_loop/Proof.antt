@@ -1,17 +1,19 @@
--- `read_loop` meets its contract. Assumes nothing.
-use Prim.Native.Nat.{_-_}
-use mathlib.Core.Path.{_≡_, sym, ap, _∙_}
+-- `read_loop` meets its contract: the loop of the payload is that of the section. Assumes nothing.
+use Prim.Native.Nat.{_-_, _≤_}
+use mathlib.Core.Path.{sym, ap, _∙_}
 use native.Mathlib.Omega.{arith}
+use lib.ListN.{take}
+use lib.Seq.{length-take-le}
 use Rattle.wire.proofs.Lists.{bytes-known}
 use Rattle.wire.proofs.Verdicts.{reached-at, reached-refused}
 use Rattle.frame.specs.Syntax.{crcLength}
-use Rattle.frame.specs.Reading.{payloadEnd}
-use Rattle.frame.proofs.Opening.{opened-fine, opened-at}
-use Rattle.frame.proofs.Readings.{reading-closed, reading-rows}
-use Rattle.rct.specs.Syntax.{rct}
+use Rattle.frame.proofs.Opening.{opened-at}
+use Rattle.frame.proofs.Readings.{reading-closed}
+use Rattle.rct.specs.Syntax.{headLength, rct}
 use Rattle.rct.specs.Reading.{payloadVerdict}
-use Rattle.rct_walker.proofs.Walks.{payload-is}
+use Rattle.rct_blocks.specs.Ends.{endOf}
 use Rattle.rct_walker.proofs.Loops.{had-loop, not-loop}
+use Rattle.rct_walker.proofs.Payloads.{room, rest-is, loop-stands}
 use borrow.Author.Needs.{needs}
 use Rattle.rct_walker.proofs.walk.read_loop.Statement.{statement}
 use Rattle.rct_walker.proofs.walk.read_loop.Tie as tie
@@ -30,32 +32,33 @@ payload-end-requires c κs = search needs
 
 shared-slice-read-wide : tie.Need-shared-slice-read-wide
 shared-slice-read-wide c =
-    let args = c .before .before .before .before .before .before .before .before .args in
-    let table = c .before .before .before .before .before .before .table in
-    let opened-at = c .before .before .before .before .before .«open» in
-    let front = c .before .before .before .front in
-    let s = args .s .now in
-    let g = reached-at _ _ _ (sym (rw (table .ensures) at (opened-at .ensures)) ∙ front .given .1) in
-    let o = opened-fine rct _ s (g .0) in
-    omega arith
+    let opening = c .before .before .before .before .before .«open» in
+    let s = c .before .before .before .before .before .before .before .before .args .s .now in
+    let k = opened-at rct _ s _ (bytes-known s (c .before .before .before .before .before .before .before .shared-slice-known .given)) (sym (rw (c .before .before .before .before .before .before .table .ensures) at (opening .ensures)) ∙ c .before .before .before .front .given .1) in
+    omega (arith, k .large, k .within)
 
 wide-requires : tie.Need-wide-requires
 wide-requires c κs = search needs
 
-head-requires : tie.Need-head-requires
-head-requires c κs = search needs
+slice-aggregate-past-rest : tie.Need-slice-aggregate-past-rest
+slice-aggregate-past-rest c =
+    let opening = c .before .before .before .before .before .before .before .«open» in
+    let s = c .before .before .before .before .before .before .before .before .before .before .args .s .now in
+    let k = opened-at rct _ s _ (bytes-known s (c .before .before .before .before .before .before .before .before .before .shared-slice-known .given)) (sym (rw (c .before .before .before .before .before .before .before .before .table .ensures) at (opening .ensures)) ∙ c .before .before .before .before .before .front .given .1) in
+    sym (length-take-le _ s (omega (arith, k .within, c .before .before .before .payload-end .ensures)))
+
+cast-past-rest : tie.Need-cast-past-rest
+cast-past-rest c = search needs
 
 past-rest-requires : tie.Need-past-rest-requires
 past-rest-requires c κs =
-    let args = c .before .before .before .before .before .before .before .before .before .before .args in
-    let table = c .before .before .before .before .before .before .before .before .table in
     let opening = c .before .before .before .before .before .before .before .«open» in
-    let front = c .before .before .before .before .before .front in
-    let shared-slice-known = c .before .before .before .before .before .before .before .before .before .shared-slice-known in
+    let s = c .before .before .before .before .before .before .before .before .before .before .args .s .now in
+    let k = opened-at rct _ s _ (bytes-known s (c .before .before .before .before .before .before .before .before .before .shared-slice-known .given)) (sym (rw (c .before .before .before .before .before .before .before .before .table .ensures) at (opening .ensures)) ∙ c .before .before .before .before .before .front .given .1) in
     let payload-end = c .before .before .before .payload-end in
-    let s = args .s .now in
-    let k = opened-at rct _ s _ (bytes-known s (shared-slice-known .given)) (sym (rw (table .ensures) at (opening .ensures)) ∙ front .given .1) in
-    (omega (arith, k .large, c .head .ensures, payload-end .ensures), (omega (arith, k .within, payload-end .ensures), omega (arith, k .short, payload-end .ensures)))
+    let e = payload-end .ensures ∙ ap (λ n. n - crcLength) (sym (k .total)) in
+    let h : headLength ≤ endOf (take (payload-end .result) s) = rw e (room _ s _ k) in
+    h
 
 enum-known-rest : tie.Need-enum-known-rest
 enum-known-rest c = search needs
@@ -68,42 +71,32 @@ enum-known-front-2 c = search needs
 
 returns : tie.Need-returns
 returns c =
-    let args = c .before .before .before .before .before .before .before .before .before .before .before .before .before .before .args in
-    let table = c .before .before .before .before .before .before .before .before .before .before .before .before .table in
-    let opened-at = c .before .before .before .before .before .before .before .before .before .before .before .«open» in
-    let front = c .before .before .before .before .before .before .before .before .before .front in
-    let payload-end = c .before .before .before .before .before .before .before .payload-end in
-    let head = c .before .before .before .before .head in
+    let opening = c .before .before .before .before .before .before .before .before .before .before .before .«open» in
     let wide = c .before .before .before .before .before .wide in
     let past-rest = c .before .before .before .past-rest in
-    let s = args .s .now in
-    let g = reached-at _ _ _ (sym (rw (table .ensures) at (opened-at .ensures)) ∙ front .given .1) in
-    let e : payload-end .result ≡ payloadEnd s = payload-end .ensures ∙ ap (λ n. n - crcLength) (sym (g .1)) in
-    let h = reached-at _ _ _ (sym (rw (e, head .ensures, wide .ensures .0) at (past-rest .ensures)) ∙ c .before .rest .given .1) in
-    had-loop _ s _ _ _ (record { fine = sym (reading-rows rct payloadVerdict _ s (g .0)) ∙ sym (payload-is s) ∙ h .0; total = g .1; count = sym (wide .ensures .0); place = h .1 })
+    let s = c .before .before .before .before .before .before .before .before .before .before .before .before .before .before .args .s .now in
+    let k = opened-at rct _ s _ (bytes-known s (c .before .before .before .before .before .before .before .before .before .before .before .before .before .shared-slice-known .given)) (sym (rw (c .before .before .before .before .before .before .before .before .before .before .before .before .table .ensures) at (opening .ensures)) ∙ c .before .before .before .before .before .before .before .before .before .front .given .1) in
+    let e = c .before .before .before .before .before .before .before .payload-end .ensures ∙ ap (λ n. n - crcLength) (sym (k .total)) in
+    let h = reached-at _ _ _ (sym (rw (e, wide .ensures .0) at (past-rest .ensures)) ∙ c .before .rest .given .1) in
+    let v = sym (rest-is _ s _ k) ∙ h .0 in
+    had-loop _ s _ _ _ (record { fine = v; total = k .total; count = sym (wide .ensures .0); place = sym (loop-stands _ s _ k v) ∙ h .1 })
 
 returns-2 : tie.Need-returns-2
 returns-2 c =
-    let args = c .before .before .before .before .before .before .before .before .before .before .before .before .before .before .args in
-    let table = c .before .before .before .before .before .before .before .before .before .before .before .before .table in
-    let opened-at = c .before .before .before .before .before .before .before .before .before .before .before .«open» in
-    let front = c .before .before .before .before .before .before .before .before .before .front in
-    let payload-end = c .before .before .before .before .before .before .before .payload-end in
-    let head = c .before .before .before .before .head in
+    let opening = c .before .before .before .before .before .before .before .before .before .before .before .«open» in
     let wide = c .before .before .before .before .before .wide in
     let past-rest = c .before .before .before .past-rest in
-    let s = args .s .now in
-    let g = reached-at _ _ _ (sym (rw (table .ensures) at (opened-at .ensures)) ∙ front .given .1) in
-    let e : payload-end .result ≡ payloadEnd s = payload-end .ensures ∙ ap (λ n. n - crcLength) (sym (g .1)) in
-    let h = reached-refused _ _ _ (sym (rw (e, head .ensures, wide .ensures .0) at (past-rest .ensures)) ∙ c .before .rest2 .given .1) in
-    not-loop _ s _ (sym (reading-rows rct payloadVerdict _ s (g .0)) ∙ sym (payload-is s) ∙ h)
+    let s = c .before .before .before .before .before .before .before .before .before .before .before .before .before .before .args .s .now in
+    let k = opened-at rct _ s _ (bytes-known s (c .before .before .before .before .before .before .before .before .before .before .before .before .before .shared-slice-known .given)) (sym (rw (c .before .before .before .before .before .before .before .before .before .before .before .before .table .ensures) at (opening .ensures)) ∙ c .before .before .before .before .before .before .before .before .before .front .given .1) in
+    let e = c .before .before .before .before .before .before .before .payload-end .ensures ∙ ap (λ n. n - crcLength) (sym (k .total)) in
+    let h = reached-refused _ _ _ (sym (rw (e, wide .ensures .0) at (past-rest .ensures)) ∙ c .before .rest2 .given .1) in
+    not-loop _ s _ (sym (rest-is _ s _ k) ∙ h)
 
 returns-3 : tie.Need-returns-3
 returns-3 c =
-    let args = c .before .before .before .before .before .before .args in
-    let table = c .before .before .before .before .table in
-    let opened-at = c .before .before .before .«open» in
-    not-loop _ (args .s .now) _ (reading-closed rct payloadVerdict _ (args .s .now) _ (reached-refused _ _ _ (sym (rw (table .ensures) at (opened-at .ensures)) ∙ c .before .front2 .given .1)))
+    let opening = c .before .before .before .«open» in
+    let s = c .before .before .before .before .before .before .args .s .now in
+    not-loop _ s _ (reading-closed rct payloadVerdict _ s _ (reached-refused _ _ _ (sym (rw (c .before .before .before .before .table .ensures) at (opening .ensures)) ∙ c .before .front2 .given .1)))
 
 pub read-loop-spec : {M : Type 1} → statement M
 read-loop-spec =
@@ -115,7 +108,8 @@ read-loop-spec =
     payload-end-requires
     shared-slice-read-wide
     wide-requires
-    head-requires
+    slice-aggregate-past-rest
+    cast-past-rest
     past-rest-requires
     enum-known-rest
     enum-known-rest-2

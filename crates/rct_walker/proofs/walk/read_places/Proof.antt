@@ -1,13 +1,17 @@
--- `read_places` meets its contract. Assumes nothing.
-use mathlib.Core.Path.{_≡_, sym, _∙_}
+-- `read_places` meets its contract: what is walked over of the payload is what is walked over of the section. Assumes nothing.
+use Prim.Native.Nat.{_-_}
+use mathlib.Core.Path.{sym, ap, _∙_}
 use native.Mathlib.Omega.{arith}
+use lib.Seq.{length-take-le}
 use Rattle.wire.proofs.Lists.{bytes-known}
-use Rattle.wire.proofs.Verdicts.{reached-at, reached-refused}
+use Rattle.wire.proofs.Verdicts.{reached-refused}
+use Rattle.frame.specs.Syntax.{crcLength}
 use Rattle.frame.proofs.Opening.{opened-at}
-use Rattle.frame.proofs.Readings.{reading-closed, reading-rows}
+use Rattle.frame.proofs.Readings.{reading-closed}
 use Rattle.rct.specs.Syntax.{rct}
 use Rattle.rct.specs.Reading.{payloadVerdict}
 use Rattle.rct_walker.proofs.Walks.{refused-walked}
+use Rattle.rct_walker.proofs.Payloads.{room, walked-is}
 use borrow.Author.Needs.{needs}
 use Rattle.rct_walker.proofs.walk.read_places.Statement.{statement}
 use Rattle.rct_walker.proofs.walk.read_places.Tie as tie
@@ -21,34 +25,39 @@ open-requires c κs = search needs
 enum-known-front : tie.Need-enum-known-front
 enum-known-front c = search needs
 
+payload-end-requires : tie.Need-payload-end-requires
+payload-end-requires c κs = search needs
+
+slice-aggregate-past-payload : tie.Need-slice-aggregate-past-payload
+slice-aggregate-past-payload c =
+    let opening = c .before .before .before .before .before .«open» in
+    let s = c .before .before .before .before .before .before .before .before .args .s .now in
+    let k = opened-at rct _ s _ (bytes-known s (c .before .before .before .before .before .before .before .shared-slice-known .given)) (sym (rw (c .before .before .before .before .before .before .table .ensures) at (opening .ensures)) ∙ c .before .before .before .front .given .1) in
+    sym (length-take-le _ s (omega (arith, k .within, c .before .payload-end .ensures)))
+
 past-payload-requires : tie.Need-past-payload-requires
 past-payload-requires c κs =
-    let args = c .before .before .before .before .before .before .args in
-    let table = c .before .before .before .before .table in
-    let opened = c .before .before .before .«open» in
-    let known = c .before .before .before .before .before .shared-slice-known in
-    let s = args .s .now in
-    let k = opened-at rct _ s _ (bytes-known s (known .given)) (sym (rw (table .ensures) at (opened .ensures)) ∙ c .before .front .given .1) in
-    (sym (k .total), (k .large, (k .within, omega (arith, k .short))))
+    let opening = c .before .before .before .before .before .«open» in
+    let s = c .before .before .before .before .before .before .before .before .args .s .now in
+    let k = opened-at rct _ s _ (bytes-known s (c .before .before .before .before .before .before .before .shared-slice-known .given)) (sym (rw (c .before .before .before .before .before .before .table .ensures) at (opening .ensures)) ∙ c .before .before .before .front .given .1) in
+    let e = c .before .payload-end .ensures ∙ ap (λ n. n - crcLength) (sym (k .total)) in
+    rw e (room _ s _ k)
 
 enum-known-front-2 : tie.Need-enum-known-front-2
 enum-known-front-2 c = search needs
 
 returns : tie.Need-returns
 returns c =
-    let table = c .before .before .before .before .before .table in
-    let opened-at = c .before .before .before .before .«open» in
-    let front = c .before .before .front in
-    let args = c .before .before .before .before .before .before .before .args in
-    let g = reached-at _ _ _ (sym (rw (table .ensures) at (opened-at .ensures)) ∙ front .given .1) in
-    rw (← reading-rows rct payloadVerdict _ (args .s .now) (g .0)) (c .past-payload .ensures)
+    let opening = c .before .before .before .before .before .before .«open» in
+    let s = c .before .before .before .before .before .before .before .before .before .args .s .now in
+    let k = opened-at rct _ s _ (bytes-known s (c .before .before .before .before .before .before .before .before .shared-slice-known .given)) (sym (rw (c .before .before .before .before .before .before .before .table .ensures) at (opening .ensures)) ∙ c .before .before .before .before .front .given .1) in
+    let e = c .before .before .payload-end .ensures ∙ ap (λ n. n - crcLength) (sym (k .total)) in
+    c .past-payload .ensures ∙ rw e (walked-is _ s _ k (c .before .before .before .before .before .before .before .before .before .args .number))
 
 returns-2 : tie.Need-returns-2
 returns-2 c =
-    let args = c .before .before .before .before .before .before .args in
-    let table = c .before .before .before .before .table in
-    let opened-at = c .before .before .before .«open» in
-    refused-walked _ _ _ (reading-closed rct payloadVerdict _ (args .s .now) _ (reached-refused _ _ _ (sym (rw (table .ensures) at (opened-at .ensures)) ∙ c .before .front2 .given .1)))
+    let opening = c .before .before .before .«open» in
+    refused-walked _ _ _ (reading-closed rct payloadVerdict _ (c .before .before .before .before .before .before .args .s .now) _ (reached-refused _ _ _ (sym (rw (c .before .before .before .before .table .ensures) at (opening .ensures)) ∙ c .before .front2 .given .1)))
 
 pub read-places-spec : {M : Type 1} → statement M
 read-places-spec =
@@ -57,6 +66,8 @@ read-places-spec =
     table-requires
     open-requires
     enum-known-front
+    payload-end-requires
+    slice-aggregate-past-payload
     past-payload-requires
     enum-known-front-2
     returns

@@ -1,0 +1,2 @@
+-- What private stages of the code answer.
+pub mod Stages

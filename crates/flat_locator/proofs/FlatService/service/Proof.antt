@@ -1,0 +1,13 @@
+-- `service` meets its contract. Assumes nothing.
+use borrow.Author.Needs.{needs}
+use Rattle.flat_locator.proofs.FlatService.service.Statement.{statement}
+use Rattle.flat_locator.proofs.FlatService.service.Tie as tie
+
+returns : tie.Need-returns
+returns c = rw (← c .before .is-set .ensures, c .if1 .taken)
+
+returns-2 : tie.Need-returns-2
+returns-2 c = rw (← c .before .is-set .ensures, c .if1 .left)
+
+pub service-spec : {M : Type 1} → statement M
+service-spec = tie.close (tie.spec (search needs) returns returns-2)

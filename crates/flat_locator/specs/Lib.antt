@@ -1,0 +1,3 @@
+-- A locator's record as numbers alone, and the record that such numbers stand for.
+pub mod Flags
+pub mod Locators

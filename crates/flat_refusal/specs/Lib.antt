@@ -1,0 +1,2 @@
+-- A verdict as numbers alone.
+pub mod Refusals

@@ -1,0 +1,2 @@
+-- Sections and headers as numbers alone.
+pub mod Sections

@@ -1,0 +1,4 @@
+-- The laws of those answers, and that each public contract leaves one outcome.
+pub mod Places
+pub mod Stages
+pub mod Unique

@@ -1,0 +1,2 @@
+-- Where a payload that is handed in ends.
+pub mod Ends

@@ -1,0 +1,2 @@
+-- What an edit stores in a section besides the link.
+pub mod Stores

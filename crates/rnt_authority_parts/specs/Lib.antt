@@ -1,0 +1,2 @@
+-- Which parts of an authority are handed back.
+pub mod Parts

@@ -1,6 +1,8 @@
 // Bytes moved within a lent buffer, to places that may overlap those where they are: from the last one down where they go up,
 // from the first one up where they go down, so that none is written over before it is read. No more than a run of them is
 // under way at a time, in the processor's registers.
+#![tactic(auto)]
+
 ghost use Rattle.std.specs.Prelude.{◌≡◌};
 ghost use Rattle.byte_moves.specs.Moves.{both_within, moved_within};
 

@@ -1,4 +1,6 @@
 // A run of bytes stored at a place.
+#![tactic(auto)]
+
 ghost use Rattle.std.specs.Prelude.{◌≡◌};
 ghost use Rattle.byte_stores.specs.Stores.{room_at, put_at};
 

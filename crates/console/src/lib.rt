@@ -5,6 +5,8 @@
 // A form says how a run of words looks, in a call and in an answer alike: `#` in it is a number, `%` one that a byte holds,
 // `~` one that two bits hold, `?` one that a flag holds, `*` a byte in two digits to base 16, and any other character is
 // itself. `_` stands for nothing: it fills up a short form.
+#![tactic(auto)]
+
 pub mod digits;
 pub mod lines;
 pub mod print;

@@ -2,7 +2,7 @@
 use libc::STDIN_FILENO;
 
 // The part of the block that is still to be taken: none of it where the input is over.
-#[derive(Drop)]
+#[derive(Clone, Copy)]
 pub struct Unread {
     pub from: usize,
     pub to: usize,

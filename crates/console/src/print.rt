@@ -21,7 +21,7 @@ const SPACE: Short = *b" _______________________";
 const NEWLINE: Short = *b"\n_______________________";
 
 // How bytes are printed: as the characters of a form, in two digits to base 16 each, or as text.
-#[derive(Drop)]
+#[derive(Clone, Copy)]
 pub enum Spelling {
     Form,
     Hex,

@@ -1,5 +1,7 @@
 // The register of ISO/IEC 13818-1, Annex A, byte by byte: the CRC of a message so, and what a word of 64 digits leaves on division
 // by the CRC's polynomial.
+#![tactic(auto)]
+
 ghost use Rattle.std.specs.Prelude.{◌≡◌};
 ghost use Rattle.crc.specs.Crc.{bits8, clocked, crc_of};
 ghost use Rattle.crc.specs.Shifts.{shifts};

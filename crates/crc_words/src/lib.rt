@@ -1,6 +1,8 @@
 // The CRC of a section, ISO/IEC 13818-1, Annex A, by words of eight bytes.
 // A word is a polynomial. Instead of going through the register, it is added to words further on, at places where modulo the CRC's
 // polynomial it counts the same; only what is left of the last two goes through. Up to eight bytes go through one by one.
+#![tactic(auto)]
+
 ghost use Rattle.std.specs.Prelude.{◌≡◌, ◌+◌, ◌-◌, ◌%◌, ◌≤◌, ◌<◌, length};
 ghost use Rattle.wire.specs.Numbers.{be32};
 ghost use Rattle.crc.specs.Crc.{crc_of};

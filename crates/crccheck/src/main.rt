@@ -1,4 +1,6 @@
 // Runs the CRC over the nine ASCII digits of its published check value, and over them with that value behind them.
+#![tactic(auto)]
+
 use libc::STDOUT_FILENO;
 
 // Writes a line: the name of some bytes, and their CRC.

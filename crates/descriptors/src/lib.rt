@@ -1,4 +1,6 @@
 // A descriptor loop (ISO/IEC 13818-1, 2.6): how many descriptors it has, or where one of them is cut off.
+#![tactic(auto)]
+
 ghost use Rattle.std.specs.Prelude.{◌≡◌, length, drop};
 ghost use Rattle.descriptors.specs.Reading.{size_of, descriptors_of, cut_verdict, counted};
 ghost use Rattle.descriptors.specs.Stages.{front_of};

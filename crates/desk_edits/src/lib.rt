@@ -1,5 +1,7 @@
 // The calls of a script that change the lent buffer: make, append and replace. What is promised of this crate is that it
 // traps on nothing and ends; the gate runs it on stored input with rctdesk.
+#![tactic(auto)]
+
 use console::Short;
 use desk_links::link_words::read_link;
 use desk_records::edited_words::put_edited;

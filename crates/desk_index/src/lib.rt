@@ -1,6 +1,8 @@
 // The calls of a script that have an index beside the lent buffer: index, index=, ixappend and ixreplace. The index that one
 // of them leaves is the next one's. What is promised of this crate is that it traps on nothing and ends; the gate runs it on
 // stored input with rctdesk.
+#![tactic(auto)]
+
 use console::Short;
 use console::print::{put_refusal, say};
 use desk_index_words::index_words::{put_index, read_index};

@@ -1,5 +1,7 @@
 // The calls of a script that read the lent buffer: plain, checked, link and item. What is promised of this crate is that it
 // traps on nothing and ends; the gate runs it on stored input with rctdesk.
+#![tactic(auto)]
+
 use console::Short;
 use console::print::{put_refusal, say};
 use desk_links::link_words::{put_before_items, put_behind_items, put_item, put_link};

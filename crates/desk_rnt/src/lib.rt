@@ -1,5 +1,7 @@
 // The calls of a script that read a resolution notification section: rnt, rntchecked, prov and auth. What is promised of
 // this crate is that it traps on nothing and ends; the gate runs it on stored input with rctdesk.
+#![tactic(auto)]
+
 mod words;
 
 use console::Short;

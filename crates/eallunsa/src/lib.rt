@@ -1,5 +1,7 @@
 // The library's calls by names that a C program can call, built by `rt staticlib eallunsa`. A slice is a pointer and a number of
 // bytes; records go in and out by value and hold numbers alone.
+#![tactic(auto)]
+
 ghost use Rattle.std.specs.Prelude.{◌≡◌};
 ghost use Rattle.crc.specs.Crc.{crc_of};
 ghost use Rattle.eallunsa.specs.Version.{released};

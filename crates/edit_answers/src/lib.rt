@@ -1,4 +1,6 @@
 // What an edit answers.
+#![tactic(auto)]
+
 ghost use Rattle.std.specs.Prelude.{◌≡◌};
 ghost use Rattle.edit_answers.specs.Answers.{refused_with, accepted_with, spliced_by, edited_by};
 
@@ -32,7 +34,7 @@ impl Edited {
 
 // What an edit answers to whoever keeps places of the section: the totals after it and before it, the number of links before
 // it, and the place where the link's entry now stands; or the refusal.
-#[derive(Drop)]
+#[derive(Clone, Copy)]
 pub enum Spliced {
     Done {
         total: usize,

@@ -1,5 +1,7 @@
 // The fields that refusal 22 names (docs/REFUSALS.md): what each is, its rank in that list, and its widest number, stated once
 // for readers and writers of every layer. The list calls the rank the field's place; here a place is always one among bytes.
+#![tactic(auto)]
+
 ghost use Rattle.std.specs.Prelude.{◌≡◌};
 ghost use Rattle.field.specs.Fields.{ranked, check_field, low};
 
@@ -7,7 +9,7 @@ use length_field::LengthField;
 use wire::verdict::{Refusal, Verdict};
 
 // A field's kind: its rank in the list, where its constant says what it is, and its widest number.
-#[derive(Drop)]
+#[derive(Clone, Copy)]
 pub struct Field {
     pub rank: usize,
     pub widest: usize,

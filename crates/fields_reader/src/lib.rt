@@ -1,4 +1,6 @@
 // Reading a link without its items from its body, a slice of its own, which is walked over and checked first.
+#![tactic(auto)]
+
 ghost use Rattle.std.specs.Prelude.{◌≡◌};
 ghost use Rattle.wire.specs.declared.verdict.Verdict.TheVariants.{Fine};
 ghost use Rattle.link.specs.Reading.{body_verdict};

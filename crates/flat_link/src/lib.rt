@@ -1,4 +1,6 @@
 // A link's record as numbers alone, for a caller that has no enums; what may be absent is told as in flat_locator.
+#![tactic(auto)]
+
 ghost use Rattle.std.specs.Prelude.{◌≡◌};
 ghost use Rattle.flat_link.specs.Links.{uri_range, uri_of, no_locator, place_flat, place_of, fields_flat, fields_of, link_flat, info_of};
 
@@ -8,7 +10,7 @@ use locator::{DvbBinaryLocator, DvbLocatorIdentifier, DvbLocatorService, DvbLoca
 
 // The fields of a link's record, all but the items themselves.
 #[repr(C)]
-#[derive(Drop)]
+#[derive(Clone, Copy)]
 pub struct FlatFields {
     pub reserved_link_info_length: u16,
     pub link_type: u16,

@@ -1,5 +1,7 @@
 // A locator's record as numbers alone, for a caller that has no enums. What may be absent stands beside a number: 0 says absent,
 // anything else present. A record that is made here says 1, and has zeros in what is absent.
+#![tactic(auto)]
+
 ghost use Rattle.std.specs.Prelude.{◌≡◌};
 ghost use Rattle.flat_locator.specs.Flags.{is_set};
 ghost use Rattle.flat_locator.specs.Locators.{service_flat, service_of, identifier_flat, identifier_of, windows_flat, windows_of, locator_flat, locator_of};
@@ -8,7 +10,7 @@ use locator::{DvbBinaryLocator, DvbLocatorIdentifier, DvbLocatorService, DvbLoca
 
 // `inline_service` 0: the short id that stands for a service; anything else: its three ids and the two bits beside them.
 #[repr(C)]
-#[derive(Drop)]
+#[derive(Clone, Copy)]
 pub struct FlatService {
     pub inline_service: u8,
     pub dvb_service_triplet_id: u16,
@@ -20,7 +22,7 @@ pub struct FlatService {
 
 // `identifier_type` as its two bits tell: 0 none, 1 an event_id, 2 a TVA_id in the EIT, and from 3 on a TVA_id and a component.
 #[repr(C)]
-#[derive(Drop)]
+#[derive(Clone, Copy)]
 pub struct FlatIdentifier {
     pub identifier_type: u8,
     pub component: u8,
@@ -28,7 +30,7 @@ pub struct FlatIdentifier {
 }
 
 #[repr(C)]
-#[derive(Drop)]
+#[derive(Clone, Copy)]
 pub struct FlatWindows {
     pub present: u8,
     pub early_start_window: u16,
@@ -36,7 +38,7 @@ pub struct FlatWindows {
 }
 
 #[repr(C)]
-#[derive(Drop)]
+#[derive(Clone, Copy)]
 pub struct FlatLocator {
     pub scheduled_time_reliability: u8,
     pub reserved: u16,

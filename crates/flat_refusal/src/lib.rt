@@ -1,4 +1,6 @@
 // A verdict as numbers alone: a refusal, whose number is 0 where there is none.
+#![tactic(auto)]
+
 ghost use Rattle.std.specs.Prelude.{◌≡◌};
 ghost use Rattle.flat_refusal.specs.Refusals.{no_refusal, refusal_of};
 

@@ -1,4 +1,6 @@
 // Sections of both tables, and a header to be written, as numbers alone. Beside a refusal stand zeros.
+#![tactic(auto)]
+
 ghost use Rattle.std.specs.Prelude.{◌≡◌};
 ghost use Rattle.flat_sections.specs.Sections.{header_flat, header_of, rct_header_flat, rct_header_of, rct_answer, no_resolution, rnt_numbers, rnt_answer};
 

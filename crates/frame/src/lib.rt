@@ -1,4 +1,6 @@
 // What the sections of every table share: how they begin, how long they are, and how they end.
+#![tactic(auto)]
+
 ghost use Rattle.std.specs.Prelude.{◌≡◌, ◌-◌};
 ghost use Rattle.frame.specs.Syntax.{crc_length, least};
 ghost use Rattle.frame.specs.Reading.{total_in, plain_demands, checked_demands};
@@ -6,7 +8,7 @@ ghost use Rattle.frame.specs.Reading.{total_in, plain_demands, checked_demands};
 use length_field::LengthField;
 
 // A table: its id, its smallest section_length, and the number of the refusal of another id.
-#[derive(Drop)]
+#[derive(Clone, Copy)]
 pub struct Table {
     pub id: u8,
     pub shortest: u8,
@@ -32,7 +34,7 @@ impl Table {
 
 // What a reading demands of a section besides its syntax: section_syntax_indicator set or not looked at, and the greatest
 // section_length that it takes.
-#[derive(Drop)]
+#[derive(Clone, Copy)]
 pub struct Demands {
     pub indicator: bool,
     pub most: usize,

@@ -1,4 +1,6 @@
 // How a section ends: the CRC of the bytes before it.
+#![tactic(auto)]
+
 ghost use Rattle.std.specs.Prelude.{◌≡◌};
 ghost use Rattle.wire.specs.Refusals.{wrong_crc};
 ghost use Rattle.wire.specs.Verdict.{bad};

@@ -1,4 +1,6 @@
 // Opening a section of any table: how it begins, how long it is, and what a reading demands of it besides.
+#![tactic(auto)]
+
 ghost use Rattle.std.specs.Prelude.{◌≡◌};
 ghost use Rattle.wire.specs.Verdict.{bad, reached};
 ghost use Rattle.frame.specs.Reading.{total_of, unindicated, opened};

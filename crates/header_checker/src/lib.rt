@@ -1,4 +1,6 @@
 // What is checked of a section's header before it is written.
+#![tactic(auto)]
+
 ghost use Rattle.std.specs.Prelude.{◌≡◌};
 ghost use Rattle.section_header.specs.Checks.{check_header};
 

@@ -1,4 +1,6 @@
 // Reading bytes 1 to 7 of a section.
+#![tactic(auto)]
+
 ghost use Rattle.std.specs.Prelude.{[], ◌∷◌, ◌≡◌};
 ghost use Rattle.section_header.specs.Reading.{header_at};
 

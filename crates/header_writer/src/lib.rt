@@ -1,4 +1,6 @@
 // Writing bytes 1 to 7 of a section.
+#![tactic(auto)]
+
 ghost use Rattle.std.specs.Prelude.{◌≡◌, ◌%◌, ◌+◌};
 ghost use Rattle.length_field.specs.Lengths.{longest};
 ghost use Rattle.section_header.specs.Syntax.{version_byte, header_bytes};

@@ -1,5 +1,7 @@
 // Over the items of a link by their place: each answers the place behind what it passed, or the refusal, 12 or 13 against the
 // slice's end. Of an item only the length of its text is read.
+#![tactic(auto)]
+
 ghost use Rattle.std.specs.Prelude.{◌≡◌, ◌<◌, ◌^◌};
 ghost use Rattle.wire.specs.Verdict.{reached};
 ghost use Rattle.link.specs.Reading.{item_end, item_place, item_verdict, items_verdict};

@@ -1,4 +1,6 @@
 // Steps through the items of the link body on standard input: a line for each item, and the refusal that ends them.
+#![tactic(auto)]
+
 use console::Short;
 use console::print::{end_line, put_number, put_refusal, say};
 use length_field::LengthField;

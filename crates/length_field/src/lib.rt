@@ -1,10 +1,12 @@
 // A 12-bit length with the four bits beside it: one thing, two bytes.
+#![tactic(auto)]
+
 ghost use Rattle.std.specs.Prelude.{◌≡◌, ◌%◌, ◌+◌};
 ghost use Rattle.length_field.specs.Lengths.{length_field, length_bytes, longest, widest_beside, long_row, last_rows};
 
 use wire::verdict::{Refusal, Verdict};
 
-#[derive(Drop)]
+#[derive(Clone, Copy)]
 pub struct LengthField {
     pub beside: u8,
     pub length: usize,

@@ -1,5 +1,7 @@
 // A link of the related content section (ETSI TS 102 323, 10.4.3, Table 110): its record, how long its parts are, which
 // link types have what, and what a reading of its body answers.
+#![tactic(auto)]
+
 ghost use Rattle.std.specs.Prelude.{◌≡◌};
 ghost use Rattle.link.specs.Syntax.{uri_due, locator_due};
 ghost use Rattle.link.specs.Records.{no_item, no_fields, no_link, ones_fields};
@@ -11,7 +13,7 @@ pub mod reading;
 
 // Bytes of one lent text: where they start, and how many there are.
 #[repr(C)]
-#[derive(Drop)]
+#[derive(Clone, Copy)]
 pub struct Range {
     pub start: u32,
     pub length: u32,
@@ -19,7 +21,7 @@ pub struct Range {
 
 // The three bytes of an ISO 639-2 language code.
 #[repr(C)]
-#[derive(Drop)]
+#[derive(Clone, Copy)]
 pub struct LangCode {
     pub first: u8,
     pub second: u8,
@@ -27,19 +29,19 @@ pub struct LangCode {
 }
 
 #[repr(C)]
-#[derive(Drop)]
+#[derive(Clone, Copy)]
 pub struct LinkItem {
     pub language_code: LangCode,
     pub promotional_text: Range,
 }
 
-#[derive(Drop)]
+#[derive(Clone, Copy)]
 pub enum MediaUri {
     Absent,
     Present(Range),
 }
 
-#[derive(Drop)]
+#[derive(Clone, Copy)]
 pub enum LinkLocator {
     Absent,
     Present(DvbBinaryLocator),
@@ -47,7 +49,7 @@ pub enum LinkLocator {
 
 // The fields of a link's record, all but the items themselves. The number of the items stands last, so that the items follow
 // without a gap: a record that is made of its fields and its items is then not made twice.
-#[derive(Drop)]
+#[derive(Clone, Copy)]
 pub struct LinkFields {
     pub reserved_link_info_length: u16,
     pub link_type: u16,
@@ -66,7 +68,7 @@ pub struct LinkFields {
 }
 
 // The record of a link: `number_items` of the items count, the others mean nothing.
-#[derive(Drop)]
+#[derive(Clone, Copy)]
 pub struct LinkInfo {
     pub fields: LinkFields,
     pub items: [LinkItem; LinkInfo::MOST_ITEMS],

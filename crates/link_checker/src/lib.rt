@@ -1,5 +1,7 @@
 // What is checked of a link's record before it is written, and how long its body is. Fields that are absent are not
 // checked. The array of items is walked once, and handed on to nobody.
+#![tactic(auto)]
+
 ghost use Rattle.std.specs.Prelude.{◌≡◌, ◌+◌, ◌*◌, ◌≤◌};
 ghost use Rattle.field.specs.Fields.{number_items, check_field};
 ghost use Rattle.link.specs.Syntax.{item_head};
@@ -15,7 +17,7 @@ use wire::verdict::{Refusal, Verdict, first_of};
 
 // Of some parts of the body that are ranges of the text: the first length that is too wide for its field, the first range
 // past the text, and how many bytes they have with their heads.
-#[derive(Drop)]
+#[derive(Clone, Copy)]
 struct RangesChecked {
     narrow: Verdict,
     within: Verdict,
@@ -23,7 +25,7 @@ struct RangesChecked {
 }
 
 // Of the locator: the first field that is too wide, whether the windows are as the rule has them, and how many bytes it has.
-#[derive(Drop)]
+#[derive(Clone, Copy)]
 struct LocatorChecked {
     narrow: Verdict,
     rule: Verdict,

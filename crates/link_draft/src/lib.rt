@@ -1,4 +1,6 @@
 // A link that is to be written: what its checks answer, and what checker and writer share.
+#![tactic(auto)]
+
 ghost use Rattle.std.specs.Prelude.{◌≡◌, min, ◌≤◌};
 ghost use Rattle.field.specs.Fields.{number_items};
 ghost use Rattle.link_draft.specs.Checks.{uri_here, locator_here, check_range};

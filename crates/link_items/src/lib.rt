@@ -1,5 +1,7 @@
 // An item reader: it keeps the bytes of a link's body and the number of the next item. The body is what stands behind the
 // entry's two length bytes; the ranges of its items are counted from its first byte.
+#![tactic(auto)]
+
 ghost use Rattle.std.specs.Prelude.{◌≡◌};
 ghost use Rattle.link.specs.Answers.{item_read};
 ghost use Rattle.link_items.specs.Steps.{stepped_from, stepped, reader_of, moved_on, item_after};

@@ -5,7 +5,7 @@ ghost use Rattle.link_names.specs.Types.{type_number, type_numbers, type_of};
 use crate::Numbers;
 use field::Field;
 
-#[derive(Drop)]
+#[derive(Clone, Copy)]
 pub enum LinkType {
     UriString,
     BinaryLocator,

@@ -1,5 +1,7 @@
 // The parts of a link's body that are handed back: each is that part of the lent slice itself, or nothing where there is
 // none. Why there is none, the calls of link_reader answer.
+#![tactic(auto)]
+
 ghost use Rattle.std.specs.Prelude.{◌≡◌};
 ghost use Rattle.wire.specs.Lists.{within};
 ghost use Rattle.spans.specs.Spans.{span_of};

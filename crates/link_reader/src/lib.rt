@@ -1,5 +1,7 @@
 // Reading a link with its items from its body, and an item by its number or its place. A body, a slice of its own, is walked
 // over and checked first; what is then read from it is known to be there.
+#![tactic(auto)]
+
 ghost use Rattle.std.specs.Prelude.{◌≡◌, ◌+◌, ◌-◌, ◌≤◌, length};
 ghost use Rattle.wire.specs.declared.verdict.Verdict.TheVariants.{Fine};
 ghost use Rattle.link.specs.Syntax.{item_head};

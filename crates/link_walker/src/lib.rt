@@ -1,5 +1,7 @@
 // Walking over a link's body, a slice of its own: places are counted from its first byte. The walk checks all of it, so that
 // what is then read at its places is known to be there.
+#![tactic(auto)]
+
 ghost use Rattle.std.specs.Prelude.{◌≡◌};
 ghost use Rattle.link.specs.Reading.{body_verdict};
 ghost use Rattle.link_walker.specs.Places.{body_places};

@@ -1,6 +1,8 @@
 // Writing a link's body into a lent buffer, part by part. Nothing is checked: of a number that is too wide for its field the
 // lowest bits are written, of a range that goes past the text nothing, and a part for which there is no room is left out
 // with all behind it.
+#![tactic(auto)]
+
 ghost use Rattle.std.specs.Prelude.{◌≡◌, [], ◌∷◌, min, ◌+◌, ◌*◌, ◌≤◌};
 ghost use Rattle.field.specs.Fields.{number_items, number_items_reserved, low};
 ghost use Rattle.link_draft.specs.Writing.{head_bytes, headed, uri_parts, locator_parts, front_parts, item_parts, tail_parts, link_put};

@@ -4,7 +4,7 @@ use console::digits::digit;
 
 // How far the digits are taken: how many, and how many characters were looked at. The last of these is wrong, or is a digit
 // that there is no room for, or the input is over.
-#[derive(Drop)]
+#[derive(Clone, Copy)]
 struct Digits {
     count: usize,
     characters: usize,

@@ -1,6 +1,8 @@
 // What the listings of both tables share: the options, the input, the messages, and what their lines have in common. What
 // is promised of this crate is that it traps on nothing and ends; the gate runs it on stored input with the programs that
 // stand on it.
+#![tactic(auto)]
+
 use console::Short;
 use frame::Table;
 use options::Options;
@@ -15,7 +17,7 @@ pub mod options;
 pub const MOST: usize = Table::LONGEST_PAYLOAD + Table::CRC_LENGTH;
 
 // A program that lists: its name, the section that it lists, and the open file that its messages go to.
-#[derive(Drop)]
+#[derive(Clone, Copy)]
 pub struct Program {
     pub name: Short,
     pub section: Short,

@@ -2,7 +2,7 @@
 use crate::{Program, messages};
 
 // What was asked for, and whether each word was known.
-#[derive(Drop)]
+#[derive(Clone, Copy)]
 pub struct Options {
     pub is_checked: bool,
     pub is_all: bool,

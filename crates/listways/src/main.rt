@@ -1,6 +1,8 @@
 // Carries out the commands on standard input as rctlist and rntlist do, so that each way of listing is held to what is
 // stored. A line is a program's name, its options and a file's name, one space apart; it is printed before what it lists,
 // and messages go where the listing goes.
+#![tactic(auto)]
+
 use console::lines::{Unread, char_at, read_line};
 use console::print::{end_line, put_text};
 use libc::STDOUT_FILENO;
@@ -13,7 +15,7 @@ const LONGEST: usize = 128;
 
 // What the words of a line ask for up to the one that starts at `word_at`: either program with its options, and the part of
 // the line that is the file's name.
-#[derive(Drop)]
+#[derive(Clone, Copy)]
 struct Command {
     is_rnt: bool,
     options: Options,

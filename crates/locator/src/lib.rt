@@ -1,5 +1,7 @@
 // The DVB binary locator (ETSI TS 102 323, 7.3.2.3.3, Table 31): what it holds, how many bytes each of its fields takes,
 // and how one is made; in a module each, what reading and writing answer.
+#![tactic(auto)]
+
 ghost use Rattle.std.specs.Prelude.{◌≡◌};
 ghost use Rattle.locator.specs.Syntax.{inline_service, full_service, locator_of, new_locator};
 
@@ -9,7 +11,7 @@ pub mod reading;
 pub mod writing;
 
 // The service: a short id that stands for one, or its three ids, with the two bits that stand beside those.
-#[derive(Drop)]
+#[derive(Clone, Copy)]
 pub enum DvbLocatorService {
     Triplet {
         dvb_service_triplet_id: u16,
@@ -23,7 +25,7 @@ pub enum DvbLocatorService {
 }
 
 // What names the event, besides its time.
-#[derive(Drop)]
+#[derive(Clone, Copy)]
 pub enum DvbLocatorIdentifier {
     None,
     EventId { event_id: u16 },
@@ -32,7 +34,7 @@ pub enum DvbLocatorIdentifier {
 }
 
 // How much earlier and later than its time the event may be.
-#[derive(Drop)]
+#[derive(Clone, Copy)]
 pub enum DvbLocatorWindows {
     Absent,
     Present {
@@ -43,7 +45,7 @@ pub enum DvbLocatorWindows {
 
 // A locator. Fields narrower than a byte, and the two of 9 and 10 bits, are carried wide, so that a number too wide for
 // one can be handed in and refused.
-#[derive(Drop)]
+#[derive(Clone, Copy)]
 pub struct DvbBinaryLocator {
     pub scheduled_time_reliability: bool,
     pub reserved: u16,

@@ -1,4 +1,6 @@
 // What is checked of a locator before it is written. The two stand apart, since a link has checks of its own between them.
+#![tactic(auto)]
+
 ghost use Rattle.std.specs.Prelude.{◌≡◌};
 ghost use Rattle.locator.specs.Syntax.{are_here, are_due};
 ghost use Rattle.locator.specs.Checks.{check_service, check_widths, check_fields, check_windows};

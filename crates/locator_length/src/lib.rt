@@ -1,4 +1,6 @@
 // How many bytes a locator has.
+#![tactic(auto)]
+
 ghost use Rattle.std.specs.Prelude.{◌≡◌, ◌+◌, ◌≤◌};
 ghost use Rattle.locator.specs.Syntax.{inline_length, id_length, component_length, window_length, service_length, identifier_length, windows_length, locator_length};
 

@@ -1,4 +1,6 @@
 // Reading a locator at the start of a slice: how many bytes it takes, and what stands there.
+#![tactic(auto)]
+
 ghost use Rattle.std.specs.Prelude.{◌≡◌, ◌+◌, ◌<◌, ◌≤◌, length};
 ghost use Rattle.wire.specs.Numbers.{be16};
 ghost use Rattle.locator.specs.Syntax.{head_length, inline_length, times_length, id_length, component_length};

@@ -1,5 +1,7 @@
 // Writing a locator, by value: its bytes in an array and their number. Nothing is checked: of a number that is too wide for
 // its field the lowest bits are written, and windows wherever they are present.
+#![tactic(auto)]
+
 ghost use Rattle.std.specs.Prelude.{◌≡◌, ◌+◌, ◌≤◌, length};
 ghost use Rattle.wire.specs.Numbers.{bytes16};
 ghost use Rattle.byte_stores.specs.Stores.{Wrote};

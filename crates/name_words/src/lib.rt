@@ -1,5 +1,7 @@
 // The names of link types and of how_related schemes as the programs print them. What is promised of this crate is that it
 // traps on nothing and ends.
+#![tactic(auto)]
+
 use console::Short;
 use link_names::link_type::LinkType;
 use scheme_names::HowRelated;

@@ -1,5 +1,7 @@
 // Lists what each number stands for as a link's type and as its how_related scheme: the name, and the numbers of its class.
 // Then it lists the fields that refusal 22 names by their rank: each with its widest number.
+#![tactic(auto)]
+
 use console::Short;
 use console::print::{end_line, put_number, put_short, say};
 use field::{Field, Listed};

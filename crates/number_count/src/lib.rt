@@ -1,4 +1,6 @@
 // How many members a set of the numbers 0 to 255 has.
+#![tactic(auto)]
+
 ghost use Rattle.std.specs.Prelude.{◌≡◌, ◌≤◌};
 ghost use Rattle.std.specs.Int.Count.{ones};
 ghost use Rattle.number_set.specs.Members.{width, members, trues};

@@ -1,4 +1,6 @@
 // A set of the numbers 0 to 255 by value, one bit each: number k is bit k % 64 of word k / 64.
+#![tactic(auto)]
+
 ghost use Rattle.std.specs.Prelude.{◌≡◌, true, false, ◌/◌, ◌%◌, eqb, set};
 ghost use Rattle.wire.specs.Choice.{pick};
 ghost use Rattle.number_set.specs.Members.{width, members, is_member, of_members, no_members};
@@ -14,7 +16,7 @@ const WORDS: usize = 4;
 const SIZE: usize = 256;
 
 #[repr(C)]
-#[derive(Drop)]
+#[derive(Clone, Copy)]
 pub struct NumberSet {
     pub words: [u64; WORDS],
 }

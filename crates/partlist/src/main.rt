@@ -1,5 +1,7 @@
 // Lists the related content section on standard input and, to base 16, every part of it that a call hands back: also the
 // empty ones of an item and of a link past the last. Then it lists the same bytes without the last one.
+#![tactic(auto)]
+
 use console::Short;
 use console::print::{end_line, put_hex, put_number, say};
 use libc::STDIN_FILENO;

@@ -1,4 +1,6 @@
 // The related content section: its header, and the numbers that its table states.
+#![tactic(auto)]
+
 ghost use Rattle.std.specs.Prelude.{◌≡◌};
 ghost use Rattle.rct.specs.Syntax.{head_length, rct, new_rct_header};
 
@@ -8,7 +10,7 @@ use wire::verdict::Refusal;
 
 // The fields before the links, the section's length and the number of links apart. The section header's
 // table_id_extension is the service_id.
-#[derive(Drop)]
+#[derive(Clone, Copy)]
 pub struct RctHeader {
     pub section: SectionHeader,
     pub year_offset: u16,

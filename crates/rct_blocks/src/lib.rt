@@ -1,4 +1,6 @@
 // Over an entry by its place, and the descriptor loop by its place: behind the last entry stands the loop.
+#![tactic(auto)]
+
 ghost use Rattle.std.specs.Prelude.{◌≡◌, min};
 ghost use Rattle.length_field.specs.Lengths.{block_end};
 ghost use Rattle.wire.specs.Verdict.{reached};

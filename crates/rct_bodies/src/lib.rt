@@ -1,4 +1,6 @@
 // Where the body of a link stands in its section, by number.
+#![tactic(auto)]
+
 ghost use Rattle.std.specs.Prelude.{◌≡◌};
 ghost use Rattle.wire.specs.Refusals.{no_such_number};
 ghost use Rattle.wire.specs.Verdict.{bad};

@@ -1,4 +1,6 @@
 // Making, appending and replacing in a lent buffer: the numbers that the calls share.
+#![tactic(auto)]
+
 ghost use Rattle.std.specs.Prelude.{◌≡◌};
 ghost use Rattle.rct_edit.specs.Edit.{most_links, filler};
 

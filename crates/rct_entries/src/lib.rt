@@ -1,4 +1,6 @@
 // An entry of a section by its place: from one place to the next it walks over all links.
+#![tactic(auto)]
+
 ghost use Rattle.std.specs.Prelude.{◌≡◌};
 ghost use Rattle.rct_entries.specs.Entries.{entry_read};
 

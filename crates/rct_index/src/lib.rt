@@ -1,5 +1,7 @@
 // An index beside a section: which links have a URI, a locator, the default icon flag, where each link's entry stands, and how
 // many descriptors the section's loop has.
+#![tactic(auto)]
+
 ghost use Rattle.std.specs.Prelude.{◌≡◌, []};
 ghost use Rattle.rct_index.specs.Index.{marks_in, sets_of, with_marks, place_in, no_index};
 ghost use Rattle.rct_index.specs.Building.{built};
@@ -36,7 +38,7 @@ impl LinkMarks {
 
 // For each of the three the numbers of the links that have it.
 #[repr(C)]
-#[derive(Drop)]
+#[derive(Clone, Copy)]
 pub struct LinkSets {
     pub uri: NumberSet,
     pub locator: NumberSet,
@@ -71,7 +73,7 @@ impl LinkSets {
 }
 
 #[repr(C)]
-#[derive(Drop)]
+#[derive(Clone, Copy)]
 pub struct RctIndex {
     pub sets: LinkSets,
     pub places: [u16; MOST_LINKS],

@@ -1,4 +1,6 @@
 // Appending and replacing with an index, which is brought up from what the edit answers: the section is not read again.
+#![tactic(auto)]
+
 ghost use Rattle.std.specs.Prelude.{◌≡◌};
 ghost use Rattle.rct_edit.specs.Calls.{appending, replacing};
 ghost use Rattle.rct_index.specs.Editing.{appending_indexed, replacing_indexed};

@@ -1,4 +1,6 @@
 // Bringing an index up by what an edit answered: the section is not read again.
+#![tactic(auto)]
+
 ghost use Rattle.std.specs.Prelude.{◌≡◌, ◌≤◌};
 ghost use Rattle.rct_index.specs.Editing.{turns, moved_place, told_anew};
 ghost use Rattle.rct_index_updater.specs.Stages.{Numbers};

@@ -1,4 +1,6 @@
 // Building an index of a section, in one pass over it.
+#![tactic(auto)]
+
 ghost use Rattle.std.specs.Prelude.{◌≡◌, ◌≤◌, length};
 ghost use Rattle.descriptors.specs.Reading.{counted};
 ghost use Rattle.frame.specs.Syntax.{longest_payload};

@@ -1,4 +1,6 @@
 // The links of a section and their items, by number.
+#![tactic(auto)]
+
 ghost use Rattle.std.specs.Prelude.{◌≡◌};
 ghost use Rattle.rct_links.specs.Links.{numbered_link, numbered_item};
 

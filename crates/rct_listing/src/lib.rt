@@ -1,6 +1,8 @@
 // The listing of a related content section: a line for the section, one for each link, or its refusal alone; with all its
 // parts, lines below these. What is promised of this crate is that it traps on nothing and ends; the gate runs it on stored
 // input with the programs that stand on it.
+#![tactic(auto)]
+
 mod link_lines;
 mod locator_line;
 

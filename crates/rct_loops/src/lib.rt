@@ -1,4 +1,6 @@
 // The plain and the checked reading of a related content section, as walks to the place of its descriptor loop.
+#![tactic(auto)]
+
 ghost use Rattle.std.specs.Prelude.{◌≡◌};
 ghost use Rattle.rct.specs.Reading.{plain, checked};
 ghost use Rattle.rct_walker.specs.Places.{loop_found};

@@ -1,4 +1,6 @@
 // Making a section with no links.
+#![tactic(auto)]
+
 ghost use Rattle.std.specs.Prelude.{◌≡◌, ◌+◌, ◌%◌, ◌≤◌, length};
 ghost use Rattle.length_field.specs.Lengths.{longest, block_bytes};
 ghost use Rattle.byte_stores.specs.Stores.{Wrote};

@@ -1,4 +1,6 @@
 // Reading a related content section as a whole, by plain and by checked reading.
+#![tactic(auto)]
+
 ghost use Rattle.std.specs.Prelude.{◌≡◌, ℕ, ◌≤◌, length};
 ghost use Rattle.wire.specs.declared.verdict.Verdict.{Verdict};
 ghost use Rattle.wire.specs.declared.verdict.Verdict.TheVariants.{Fine};
@@ -17,7 +19,7 @@ use section_header::SectionHeader;
 use wire::verdict::{Refusal, Verdict};
 
 // A section that was read, or a refusal beside zeros.
-#[derive(Drop)]
+#[derive(Clone, Copy)]
 pub struct RctSection {
     pub verdict: Verdict,
     pub total: usize,

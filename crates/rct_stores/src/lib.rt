@@ -1,4 +1,6 @@
 // What an edit stores in a section in a lent buffer besides the link: the head's numbers, and filler behind a new end.
+#![tactic(auto)]
+
 ghost use Rattle.std.specs.Prelude.{◌≡◌};
 ghost use Rattle.rct_stores.specs.Stores.{numbers_put, fill_put};
 

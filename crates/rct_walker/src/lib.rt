@@ -1,4 +1,6 @@
 // Walking over a related content section, by what a reading demands: the places of its links and of its loop.
+#![tactic(auto)]
+
 use wire::verdict::Refusal;
 
 pub mod walk;

@@ -24,7 +24,7 @@ const SPACE: Short = *b" _______________________";
 
 // What a line lends: into the buffer, the text or neither, how many bytes, as the scan says, and what they are: one byte
 // over and over, or those in digits from a place of the line on.
-#[derive(Drop)]
+#[derive(Clone, Copy)]
 pub struct Lending {
     pub into: usize,
     pub scan: Scan,

@@ -1,4 +1,6 @@
 // Carries out a script of calls on a section, a line each, and prints an answer line for each (docs/RCTDESK.md).
+#![tactic(auto)]
+
 mod lend;
 mod line;
 
@@ -20,7 +22,7 @@ const UNKNOWN: Short = *b" unknown call___________";
 const TOO_LONG: Short = *b" too long_______________";
 
 // The number of the line, how much of the buffer and of the text is lent, and the index that is kept.
-#[derive(Drop)]
+#[derive(Clone, Copy)]
 struct Desk {
     line_number: usize,
     buf: usize,

@@ -1,4 +1,6 @@
 // Lists the related content section on standard input, as its arguments ask.
+#![tactic(auto)]
+
 use libc::{STDERR_FILENO, STDIN_FILENO};
 
 fn main() {

@@ -1,5 +1,7 @@
 // Holds the two tables of docs/REFUSALS.md, which lies in data/, against the code: each number with its name, and each place of
 // refusal 22 with its name and its widest number. It prints how many there are, or the first row that is not as the code has it.
+#![tactic(auto)]
+
 mod rows;
 mod table;
 

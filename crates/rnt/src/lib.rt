@@ -1,4 +1,6 @@
 // The resolution notification section: its header, the numbers that its table states, and the records of its parts.
+#![tactic(auto)]
+
 ghost use Rattle.std.specs.Prelude.{◌≡◌};
 ghost use Rattle.rnt.specs.Syntax.{common_place, rnt};
 
@@ -9,7 +11,7 @@ use wire::verdict::Refusal;
 
 // The fields before the common descriptors, the section's length apart. The section header's table_id_extension is the
 // context_id.
-#[derive(Drop)]
+#[derive(Clone, Copy)]
 pub struct RntHeader {
     pub section: SectionHeader,
     pub context_id_type: u8,
@@ -50,7 +52,7 @@ impl RntHeader {
 // A provider: the bits before its two lengths, where its name and its descriptors stand, and between which places its
 // authorities do. Places are counted from the section's first byte.
 #[repr(C)]
-#[derive(Drop)]
+#[derive(Clone, Copy)]
 pub struct ResolutionProvider {
     pub reserved_info_length: u16,
     pub name: Span,

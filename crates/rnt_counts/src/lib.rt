@@ -1,5 +1,7 @@
 // What a program that prints a resolution notification section asks besides its records: where the providers stand, and how
 // many authorities one of them has. What is promised of this crate is that it traps on nothing and ends.
+#![tactic(auto)]
+
 use frame::payload_end;
 use rnt_entries::AuthorityFound;
 use rnt_reader::RntSection;

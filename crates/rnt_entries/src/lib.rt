@@ -1,4 +1,6 @@
 // A provider and an authority by their places: from one place to the next they walk over a section in one pass.
+#![tactic(auto)]
+
 ghost use Rattle.std.specs.Prelude.{◌≡◌, ◌≤◌, length};
 ghost use Rattle.rnt.specs.Reading.{named_end};
 ghost use Rattle.rnt_entries.specs.Entries.{provider_from, authority_from};

@@ -1,5 +1,7 @@
 // Over the head of a provider, and over an authority, each by its place in a section: nothing is read past the slice, whatever
 // end is told.
+#![tactic(auto)]
+
 ghost use Rattle.std.specs.Prelude.{◌≡◌};
 ghost use Rattle.wire.specs.Verdict.{reached};
 ghost use Rattle.length_field.specs.Lengths.{block_end};

@@ -1,6 +1,8 @@
 // The listing of a resolution notification section: a line for the section, one for each provider with one for each of its
 // authorities behind it, or its refusal alone; with all its parts, lines below these. What is promised of this crate is
 // that it traps on nothing and ends; the gate runs it on stored input with the programs that stand on it.
+#![tactic(auto)]
+
 mod names;
 
 use console::Short;

@@ -1,5 +1,7 @@
 // The common descriptors and the parts of a provider that are handed back: each is that part of the lent slice itself, or nothing where there is none.
 // Why there is none, the readings and the calls by number answer.
+#![tactic(auto)]
+
 ghost use Rattle.std.specs.Prelude.{◌≡◌};
 ghost use Rattle.wire.specs.Lists.{within};
 ghost use Rattle.spans.specs.Spans.{span_of};

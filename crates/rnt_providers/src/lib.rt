@@ -1,4 +1,6 @@
 // The providers of a section and their authorities, by number.
+#![tactic(auto)]
+
 ghost use Rattle.std.specs.Prelude.{◌≡◌};
 ghost use Rattle.wire.specs.declared.verdict.Verdict.TheVariants.{Fine};
 ghost use Rattle.rnt.specs.Reading.{plain};

@@ -1,4 +1,6 @@
 // Reading a resolution notification section as a whole, by plain and by checked reading.
+#![tactic(auto)]
+
 ghost use Rattle.std.specs.Prelude.{◌≡◌, ◌≤◌, length};
 ghost use Rattle.wire.specs.declared.verdict.Verdict.{Verdict};
 ghost use Rattle.wire.specs.declared.verdict.Verdict.TheVariants.{Fine};
@@ -16,7 +18,7 @@ use spans::Span;
 use wire::verdict::Refusal;
 
 // A section that was read. Its first provider stands where the common descriptors end.
-#[derive(Drop)]
+#[derive(Clone, Copy)]
 pub struct RntSection {
     pub total: usize,
     pub header: RntHeader,

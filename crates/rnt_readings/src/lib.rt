@@ -1,5 +1,7 @@
 // The plain and the checked reading of a resolution notification section, as walks: the places of its providers and of their
 // authorities.
+#![tactic(auto)]
+
 ghost use Rattle.std.specs.Prelude.{◌≡◌};
 ghost use Rattle.rnt.specs.Reading.{plain, checked};
 ghost use Rattle.rnt_walker.specs.Places.{places_at, walked};

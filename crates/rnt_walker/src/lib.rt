@@ -1,5 +1,7 @@
 // Walking over a resolution notification section, by what a reading demands: the places of its providers and of their
 // authorities.
+#![tactic(auto)]
+
 use wire::verdict::Refusal;
 
 pub mod walk;

@@ -1,11 +1,13 @@
 // The classification schemes of Table 112, by which how_related tells in what way a link's content is related.
+#![tactic(auto)]
+
 ghost use Rattle.std.specs.Prelude.{◌≡◌};
 ghost use Rattle.scheme_names.specs.Schemes.{scheme_number, scheme_numbers, scheme_of};
 
 use field::Field;
 use link_names::Numbers;
 
-#[derive(Drop)]
+#[derive(Clone, Copy)]
 pub enum HowRelated {
     Cs2004,
     Cs2005,

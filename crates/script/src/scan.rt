@@ -17,7 +17,7 @@ const END: Word = *b"end_______";
 // The widest number that a line has.
 const WIDEST: usize = u16::MAX as usize;
 
-#[derive(Drop)]
+#[derive(Clone, Copy)]
 pub struct Scan {
     pub line_number: usize,
     pub at: usize,

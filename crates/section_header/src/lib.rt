@@ -1,4 +1,6 @@
 // Bytes 1 to 7 of a section (ISO/IEC 13818-1, 2.4.4.10), section_length apart: the same in every table.
+#![tactic(auto)]
+
 ghost use Rattle.std.specs.Prelude.{◌≡◌};
 ghost use Rattle.section_header.specs.Syntax.{header_of, new_header};
 ghost use Rattle.section_header.specs.Reading.{syntax_indicator, no_header};
@@ -6,7 +8,7 @@ ghost use Rattle.section_header.specs.Reading.{syntax_indicator, no_header};
 use field::Field;
 
 // `table_id_extension` is what the table makes of it: the service_id of a related content section.
-#[derive(Drop)]
+#[derive(Clone, Copy)]
 pub struct SectionHeader {
     pub section_syntax_indicator: bool,
     pub private_indicator: bool,

@@ -1,11 +1,13 @@
 // A part of a slice that is handed back.
+#![tactic(auto)]
+
 ghost use Rattle.std.specs.Prelude.{◌≡◌};
 ghost use Rattle.wire.specs.Lists.{within};
 ghost use Rattle.spans.specs.Spans.{span_of, span_in};
 
 // Where a part starts, and how many bytes it has.
 #[repr(C)]
-#[derive(Drop)]
+#[derive(Clone, Copy)]
 pub struct Span {
     pub start: usize,
     pub length: usize,

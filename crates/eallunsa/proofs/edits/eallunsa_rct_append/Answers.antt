@@ -1,0 +1,7 @@
+use borrow.Author.Rules.{rules}
+use Rattle.eallunsa.proofs.edits.eallunsa_rct_append.Goals as goal
+
+pub returns : goal.returns
+returns c =
+    let told = rw c.link.ensures at c.append.ensures in
+    record { value = rw (← told.0) c.of.ensures; b_after = told.1 }

@@ -1,0 +1,14 @@
+use Rattle.wire.proofs.Lists.{bytes-known}
+use Rattle.rct_index_editor.proofs.Edits.{append-indexed}
+use Rattle.flat_link.specs.Links.{info_of}
+use borrow.Author.Rules.{rules}
+use Rattle.eallunsa.proofs.indexing.eallunsa_rct_index_append.Goals as goal
+
+pub returns : goal.returns
+unfolding info_of
+returns c =
+    let args = c.args in
+    let b = bytes-known args.b.now c.type_inv.b in
+    let marks = rw c.fields.ensures at c.of-marks.ensures in
+    let told = append-indexed args.b.now args.text.now _ args.index b _ _ c.put_last-put.ensures.value marks in
+    record { value = rw (← told, ← c.last_of.ensures) c.answered.ensures; b_after = c.put_last-put.ensures.b_after }

@@ -1,0 +1,7 @@
+use Rattle.flat_answers.specs.Edits.{index_answer}
+use borrow.Author.Rules.{rules}
+use Rattle.flat_answers.proofs.edits.IndexAnswer.of.Goals as goal
+
+pub returns : goal.returns
+unfolding index_answer
+returns c = rw c.refusal_of.ensures

@@ -1,0 +1,20 @@
+use mathlib.Core.Path.{sym, ◌∙◌}
+use native.Mathlib.Omega.{arith}
+use Rattle.link_items.proofs.Laws.{moved-got, moved-not, got-below}
+use borrow.Author.Rules.{rules}
+use Rattle.link_items.proofs.step_at.Goals as goal
+
+pub overflow_add-result : goal.overflow_add-result
+overflow_add-result c =
+    let read-item = c.read_item-item in
+    omega (arith, got-below _ _ _ _ (sym read-item.ensures ∙ c.in-Got.is))
+
+pub returns-in-Got : goal.returns-in-Got
+returns-in-Got c =
+    let read-item = c.read_item-item in
+    rw (moved-got _ _ _ _ (sym read-item.ensures ∙ c.in-Got.is), ← read-item.ensures) (cc)
+
+pub returns-in-Refused : goal.returns-in-Refused
+returns-in-Refused c =
+    let read-item = c.read_item-item in
+    rw (moved-not _ _ _ _ (sym read-item.ensures ∙ c.in-Refused.is), ← read-item.ensures) (cc)

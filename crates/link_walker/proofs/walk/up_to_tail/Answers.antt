@@ -1,0 +1,24 @@
+use Rattle.link_walker.proofs.Stages.{tail-14, tail-refused, tail-past}
+use borrow.Author.Rules.{rules}
+use Rattle.link_walker.proofs.walk.up_to_tail.Goals as goal
+
+pub returns-then-have-start : goal.returns-then-have-start
+returns-then-have-start c =
+    let args = c.args in
+    tail-14 args.s.now args.p c.if-have-start.true
+
+pub returns-in-Fine : goal.returns-in-Fine
+returns-in-Fine c =
+    let args = c.args in
+    let if1 = c.if-have-start in
+    let of-bytes = c.of_bytes-field in
+    let check-last = c.check_last-last in
+    tail-past args.s.now args.p if1.false _ _ of-bytes.ensures check-last.ensures c.in-Fine.is
+
+pub returns-in-Refused : goal.returns-in-Refused
+returns-in-Refused c =
+    let args = c.args in
+    let if1 = c.if-have-start in
+    let of-bytes = c.of_bytes-field in
+    let check-last = c.check_last-last in
+    tail-refused args.s.now args.p if1.false _ _ of-bytes.ensures check-last.ensures _ c.in-Refused.is

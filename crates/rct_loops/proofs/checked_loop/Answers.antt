@@ -1,0 +1,42 @@
+use Prim.Native.Nat.{◌-◌}
+use mathlib.Core.Path.{◌≡◌, sym, ap, ◌∙◌}
+use native.Mathlib.Omega.{arith}
+use Rattle.frame.specs.Syntax.{crc_length}
+use Rattle.frame.proofs.Readings.{checked-stop, checked-said}
+use Rattle.rct.specs.Syntax.{rct}
+use Rattle.rct.specs.Reading.{payload_verdict}
+use Rattle.rct_walker.proofs.Loops.{loop-had, loop-not, had-loop, not-loop}
+use borrow.Author.Rules.{rules}
+use Rattle.rct_loops.proofs.checked_loop.Goals as goal
+
+pub returns-in-Fine : goal.returns-in-Fine
+returns-in-Fine c =
+    let args = c.args in
+    let checked = c.checked in
+    let read-loop = c.read_loop-read in
+    let payload-end = c.payload_end-end in
+    let check-crc = c.check_crc-v in
+    let s = args.s.now in
+    let g = loop-had _ _ _ _ _ (sym (rw checked.ensures at read-loop.ensures) ∙ c.in-At.is) in
+    let e = payload-end.ensures ∙ ap (λ n. n - crc_length) (sym g.total) in
+    let v = checked-said rct payload_verdict s _ _ (omega arith) g.fine e check-crc.ensures ∙ c.in-Fine.is in
+    had-loop _ s _ _ _ (record { fine = v; total = g.total; count = g.count; place = g.place })
+
+pub returns-in-Refused-v : goal.returns-in-Refused-v
+returns-in-Refused-v c =
+    let args = c.args in
+    let checked = c.checked in
+    let read-loop = c.read_loop-read in
+    let payload-end = c.payload_end-end in
+    let check-crc = c.check_crc-v in
+    let s = args.s.now in
+    let g = loop-had _ _ _ _ _ (sym (rw checked.ensures at read-loop.ensures) ∙ c.in-At.is) in
+    let e = payload-end.ensures ∙ ap (λ n. n - crc_length) (sym g.total) in
+    not-loop _ s _ (checked-said rct payload_verdict s _ _ (omega arith) g.fine e check-crc.ensures ∙ c.in-Refused-v.is)
+
+pub returns-in-Refused : goal.returns-in-Refused
+returns-in-Refused c =
+    let args = c.args in
+    let checked = c.checked in
+    let read-loop = c.read_loop-read in
+    not-loop _ args.s.now _ (checked-stop rct payload_verdict args.s.now _ (loop-not _ _ _ (sym (rw checked.ensures at read-loop.ensures) ∙ c.in-Refused.is)))

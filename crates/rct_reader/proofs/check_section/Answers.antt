@@ -1,0 +1,13 @@
+use mathlib.Core.Path.{◌≡◌, sym, ◌∙◌}
+use Rattle.rct_walker.proofs.Loops.{loop-had}
+use Rattle.rct_reader.proofs.Wholes.{checked-plain}
+use borrow.Author.Rules.{rules}
+use Rattle.rct_reader.proofs.check_section.Goals as goal
+
+pub section_of-requires : goal.section_of-requires
+section_of-requires c =
+    let args = c.args in
+    λ t n p e. let g = loop-had _ _ _ _ _ (sym c.checked_loop.ensures ∙ e) in ((sym g.total, (sym g.count, sym g.place)), checked-plain args.s.now g.fine)
+
+pub returns : goal.returns
+returns c = c.section_of.ensures _ c.checked_loop.ensures

@@ -34,7 +34,7 @@ impl LengthField {
 
     // The two bytes of the field, of whose numbers the lowest four and twelve bits are taken.
     pub fn to_bytes(self) -> [u8; 2]
-        ensures* { do ⌜ result ≡ length_bytes (self.beside % (widest_beside + 1)) (self.length % (longest + 1)) ⌝ }
+        ensures { result ≡ length_bytes (self.beside % (widest_beside + 1)) (self.length % (longest + 1)) }
     {
         let length = self.length % (LengthField::LONGEST + 1);
         let beside = wire::wide(self.beside) % (LengthField::WIDEST_BESIDE + 1);

@@ -1,12 +1,12 @@
 use Prim.Native.Nat.{◌-◌, ◌^◌, ◌≤◌, ◌<◌}
 use mathlib.Core.Path.{◌≡◌, sym, ◌∙◌}
-use mathlib.Core.Logic.{⊎_elim}
 use native.Mathlib.Omega.{arith}
 use borrow.Author.Rules.{rules}
 use Rattle.crc.specs.Shifts.{shift, shifts}
 use Rattle.crc.proofs.Shift.{shift-low, shift-high, shifts_none}
 use Rattle.crc_register.proofs.Loops.{within, next-clock, all-clocks}
 use Rattle.crc_register.proofs.clock_byte.Goals as goal
+use Rattle.crc_register.proofs.clock_byte.Goals.{then-q-ge2147483648, else-q-ge2147483648}
 
 pub loop-init : goal.loop-init
 loop-init c = (search rules, sym (shifts_none _))
@@ -17,7 +17,7 @@ loop-preserved c =
     let l = c.loop in
     let small : l.q < 2 ^ 32 = within a.r a.x l.q l.counter (omega arith) (omega arith) l.invariant.1 in
     let moved : shift l.q ≡ c.if-q-ge2147483648.q =
-    ⊎_elim (λ w. shift-high l.q w.0.taken small ∙ sym w.1) (λ w. shift-low l.q w.0.left ∙ sym w.1) c.if-q-ge2147483648.branch in
+        elim c.if-q-ge2147483648.branch [ then-q-ge2147483648 w ↦ shift-high l.q w.if-q-ge2147483648.true small ∙ sym w.q-is | else-q-ge2147483648 w ↦ shift-low l.q w.if-q-ge2147483648.false ∙ sym w.q-is ] in
     (search rules, next-clock a.r a.x l.q l.counter (omega arith) (omega arith) l.invariant.1 moved)
 
 pub returns : goal.returns

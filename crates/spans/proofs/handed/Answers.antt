@@ -20,4 +20,5 @@ returns c =
     let if1 = c.if-s-length in
     let a = c.args in
     let n : a.span.start + a.span.length - a.span.start ≡ a.span.length = omega arith in
-    record { result_value = rw (span-inside a.s.now a.span (omega (arith, if1.false, c.if-s-length-2.false)), n) refl; ref_ptr_value = rw (span-inside a.s.now a.span (omega (arith, if1.false, c.if-s-length-2.false)), n) refl }
+    let i = span-inside a.s.now a.span (omega (arith, if1.false, c.if-s-length-2.false)) in
+    record { result_value = rw (i, n) refl; ref_ptr_value = rw i refl }

@@ -8,9 +8,9 @@ use Rattle.number_set.proofs.NumberSet.has.Goals as goal
 pub returns-then-k-ge-SIZE : goal.returns-then-k-ge-SIZE
 returns-then-k-ge-SIZE c =
     let a = c.args in
-    sym (members-past a.t1 a.k (carried a.t1 _ c.well-formed.0) (omega (arith, c.if-k-ge-SIZE.true)))
+    sym (members-past a.self a.k (carried a.self _ c.well_formed.0) (omega (arith, c.if-k-ge-SIZE.true)))
 
 pub returns : goal.returns
 returns c =
     let a = c.args in
-    sym (members-at a.t1 a.k)
+    sym (members-at a.self a.k)

@@ -14,9 +14,9 @@ returns c =
     let wide = c.wide-n in
     let a = entry.args in
     with-words
-    a.t1 _ a.member _ _ _ _ (carried a.t1 _ entry.well-formed.0) (omega (arith, wide.ensures.1))
+    a.self _ a.member _ _ _ _ (carried a.self _ c.well_formed.0) (omega (arith, wide.ensures.1))
     c.told-a.ensures
     c.told-b.ensures
     c.told-c.ensures
     c.told-d.ensures
-    ∙ ap (λ (k : ℕ). of_members (set (members a.t1) k a.member)) wide.ensures.0
+    ∙ ap (λ (k : ℕ). of_members (set (members a.self) k a.member)) wide.ensures.0

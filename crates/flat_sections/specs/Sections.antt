@@ -3,8 +3,8 @@
 use Rattle.wire.specs.Choice.{bit}
 use Rattle.spans.specs.Spans.{span}
 use Rattle.wire.specs.declared.verdict.Refusal.{Refusal}
-use Rattle.section◌header.specs.Reading.{no_header}
-use Rattle.section◌header.specs.Syntax as syntax
+use Rattle.section_header.specs.Reading.{no_header}
+use Rattle.section_header.specs.Syntax as syntax
 use Rattle.section_header.specs.declared.SectionHeader.{SectionHeader}
 use Rattle.rct.specs.declared.RctHeader.{RctHeader}
 use Rattle.rct_reader.specs.declared.RctSection.{RctSection}

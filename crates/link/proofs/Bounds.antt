@@ -125,6 +125,7 @@ used-short xs = go (read_locator xs) refl
     one n (inr (inr (inr (inr (inr (inl e)))))) = omega arith
     one n (inr (inr (inr (inr (inr (inr (inl e))))))) = omega arith
     one n (inr (inr (inr (inr (inr (inr (inr (inl e)))))))) = omega arith
+    one n (inr (inr (inr (inr (inr (inr (inr (inr x8)))))))) = elim x8 [ ]
 
     go : (a : LocatorRead) → read_locator xs ≡ a → locator_used a ≤ longest_locator
     go (read.Refused r) e = omega arith

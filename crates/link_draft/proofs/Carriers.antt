@@ -2,14 +2,14 @@
 -- function with a record `link`, the premise is in `c.good`.
 -- Assumes nothing.
 use mathlib.Core.Path.{◌≡◌}
-use mathlib.Core.List.{List, [], ◌∷◌, map}
-use lib.ListN.{length, length-map}
+use mathlib.Core.List.{List, [], ◌∷◌}
+use lib.ListN.{length}
 use mir.Val.{Val}
 use denote.Array.{each}
 use denote.Laws.{Is}
 use denote.Shadow.{shadow}
 use denote.Struct.Declared as struct
-use denote.Struct.Field.{Field}
+use denote.RattleType.{RattleType}
 use denote.Enum.Declared as enum
 use Rattle.field.specs.Fields.{number_items}
 use Rattle.locator.specs.Syntax as syntax
@@ -35,11 +35,11 @@ use Rattle.link_draft.specs.Carried.{Each, ItemCarried, LocatorCarried, Carried}
 item : (i : LinkItem) (vs : List Val) → Is (struct.row item-type.the_type) i vs → ItemCarried i
 item i vs g = let l = g.1.1.0.1.1 in record { first = l.0.1; second = l.1.0.1; third = l.1.1.0.1 }
 
--- an array's elements stand in its row as fields do
-abbrev element : Field
-element = item-type.the_field
+-- an array's elements stand in the row of their type
+abbrev element : RattleType
+element = struct.row item-type.the_type
 
-items : (is : List LinkItem) (vs : List Val) → shadow (each element.row.Denot element.row.own_val (map element.into is) vs) → Each ItemCarried is
+items : (is : List LinkItem) (vs : List Val) → shadow (each element.Denot element.own_val is vs) → Each ItemCarried is
 items [] vs g = tt
 items (i ∷ is) [] g = absurd g
 items (i ∷ is) (v ∷ vs) g = (item i _ g.0, items is vs g.1)
@@ -74,7 +74,7 @@ fields f vs g = let behind-precedence = g.1.1.1.1.1.1.1.1.1 in link-locator f.dv
 
 -- the record has as many items as it can, those that count and those that mean nothing
 pub array-length : (k : LinkInfo) (vs : List Val) → Is (struct.row link-type.the_type) k vs → length k.items ≡ number_items.widest
-array-length k vs g = let f = g.1.1 in simp length-map at f.1.0.1.0.1
+array-length k vs g = let f = g.1.1 in f.1.0.1.0.1
 
 pub carried : (k : LinkInfo) (vs : List Val) → Is (struct.row link-type.the_type) k vs → Carried k
 carried k vs g = let f = g.1.1 in record { locator = fields k.fields _ f.0; items = items k.items _ f.1.0.1.1 }

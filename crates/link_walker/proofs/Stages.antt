@@ -38,11 +38,11 @@ pub came_refused : (v : Verdict) (p : ℕ) (a : Reached) (r : Refusal) → a ≡
 came_refused v p a r e h = reached-refused v p r (sym e ∙ h)
 
 -- what the code asked of the link type, answered of the body
-pub due : (f : ℕ → Bool) (xs : List ℕ) (t : ℕ) (b : Bool) → t ≡ type_at xs → b ≡ f t → not b ≡ false → f (type_at xs) ≡ true
-due f xs t b e q h = ap f (sym e) ∙ sym q ∙ not-false b h
+pub due : (f : ℕ → Bool) (xs : List ℕ) (t : ℕ) (b : Bool) → t ≡ type_at xs → b ≡ f t → b ≡ true → f (type_at xs) ≡ true
+due f xs t b e q h = ap f (sym e) ∙ sym q ∙ h
 
-pub not-due : (f : ℕ → Bool) (xs : List ℕ) (t : ℕ) (b : Bool) → t ≡ type_at xs → b ≡ f t → not b ≡ true → f (type_at xs) ≡ false
-not-due f xs t b e q h = ap f (sym e) ∙ sym q ∙ not-true b h
+pub not-due : (f : ℕ → Bool) (xs : List ℕ) (t : ℕ) (b : Bool) → t ≡ type_at xs → b ≡ f t → b ≡ false → f (type_at xs) ≡ false
+not-due f xs t b e q h = ap f (sym e) ∙ sym q ∙ h
 
 module _ (xs : List ℕ) where
   -- ---- the first four bytes and the URI

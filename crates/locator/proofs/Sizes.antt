@@ -60,6 +60,7 @@ between n (inr (inr (inr (inr (inl e))))) = (omega arith, omega arith)
 between n (inr (inr (inr (inr (inr (inl e)))))) = (omega arith, omega arith)
 between n (inr (inr (inr (inr (inr (inr (inl e))))))) = (omega arith, omega arith)
 between n (inr (inr (inr (inr (inr (inr (inr (inl e)))))))) = (omega arith, omega arith)
+between n (inr (inr (inr (inr (inr (inr (inr (inr x8)))))))) = elim x8 [ ]
 
 -- a locator whose windows are as the rule has them, whatever its narrow fields hold
 pub length-eight : (l : DvbBinaryLocator) → Ruled l → OneOf lengths (locator_length l)

@@ -50,7 +50,7 @@ place_none ps k h = get_or-eq_default ps 0 h
 
 pub length-places : (p : ℕ) (ls : List Link) → length (entry_places p ls) ≡ length ls
 length-places p [] = refl
-length-places p (l ∷ ls) = ap suc (length-places _ ls)
+length-places p (l ∷ ls) = ap suc (length-places (p + length (block_bytes (entry_of l))) ls)
 
 pub places-at : (p : ℕ) (ls : List Link) (k : ℕ) → k < length ls → get_or (entry_places p ls) k 0 ≡ p + length (links_bytes (take k ls))
 places-at p [] k h = absurd (not-suc-le-zero h)

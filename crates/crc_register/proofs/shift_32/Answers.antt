@@ -6,6 +6,5 @@ use Rattle.crc_register.proofs.shift_32.Goals as goal
 -- Assumes nothing.
 pub returns : goal.returns
 returns c =
-    let b = c in
-    let r = b.args.r in
-    idle-four r _ _ _ _ (omega arith) b.clock_byte.ensures b.clock_byte-2.ensures b.clock_byte-3.ensures c.clock_byte-4.ensures
+    let r = c.args.r in
+    idle-four r _ _ _ _ (omega arith) c.clock_byte.ensures c.clock_byte-2.ensures c.clock_byte-3.ensures c.clock_byte-4.ensures

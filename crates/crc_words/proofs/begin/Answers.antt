@@ -10,7 +10,8 @@ use Rattle.crc_words.proofs.begin.Goals as goal
 pub returns : goal.returns
 returns c =
     let args = c.args in
-    let s = args.s.now in (
-      search rules,
-      first-bytes s (bytes-known s c.type_inv.s) ((length s - 1) % 8) (omega arith) (omega arith) c.word_at.ensures,
-    )
+    let s = args.s.now in
+    record {
+      at_bound = search rules;
+      result_value = first-bytes s (bytes-known s c.type_inv.s) ((length s - 1) % 8) (omega arith) (omega arith) c.word_at.ensures;
+    }

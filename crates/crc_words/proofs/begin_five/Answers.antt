@@ -11,19 +11,20 @@ returns-then-s-m-eq8 c =
     let five = c.fold_five-n.ensures in
     let a = c.args in
     let s = a.s.now in
-    let m = a.m in (
-      search rules,
-      five-first s m.at m.word m.next (_ ∷ _ ∷ _ ∷ _ ∷ _ ∷ []) (omega arith) five.0 refl five.1,
-    )
+    let m = a.m in
+    record {
+      at_in_bounds = search rules;
+      result_value = five-first s m.at m.word m.next (_ ∷ _ ∷ _ ∷ _ ∷ _ ∷ []) (omega arith) five.0 refl five.1;
+    }
 
 pub returns : goal.returns
 returns c =
-    let first = c in
-    let five = first.fold_five-n.ensures in
-    let a = first.args in
+    let five = c.fold_five-n.ensures in
+    let a = c.args in
     let s = a.s.now in
-    let m = a.m in (
-      search rules,
-      c.fold_next.ensures.1
-          ∙ five-first s m.at m.word m.next (_ ∷ _ ∷ _ ∷ _ ∷ _ ∷ []) (omega arith) five.0 refl five.1,
-    )
+    let m = a.m in
+    record {
+      at_in_bounds = search rules;
+      result_value = c.fold_next.ensures.1
+          ∙ five-first s m.at m.word m.next (_ ∷ _ ∷ _ ∷ _ ∷ _ ∷ []) (omega arith) five.0 refl five.1;
+    }

@@ -15,5 +15,4 @@ loop-n-preserved c =
 
 pub returns : goal.returns
 returns c =
-    let end = c in
-    c.last_five.ensures ∙ end.loop-n.invariant.2 ∙ end.begin_five-n.ensures.result_value
+    c.last_five.ensures ∙ c.loop-n.invariant.2 ∙ c.begin_five-n.ensures.result_value

@@ -18,13 +18,10 @@ loop-m-preserved c =
 
 pub returns : goal.returns
 returns c =
-    let word = c in
-    let end = word in
-    let l = end.before.loop in
-    let known = end.before.before in
-    let s = known.before.args.s.now in
-    let m = end.struct_known.given in
+    let l = c.loop-m in
+    let s = c.args.s.now in
+    let m = c.struct_known-1.given in
     c.fold_last.ensures
-    ∙ sym (last-read s (bytes-known s known.shared-slice-known.given) l.m.at word.word_at.ensures (omega arith)
+    ∙ sym (last-read s (bytes-known s c.type_inv.s) l.m.at c.word_at.ensures (omega arith)
     (omega (arith, m)) (omega (arith, m)) (search rules))
     ∙ l.invariant.2

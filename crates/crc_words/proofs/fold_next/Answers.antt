@@ -11,14 +11,12 @@ pub returns : goal.returns
 returns c =
     let struct_known = c.struct_known-1 in
     let five = c.fold_five.ensures in
-    let word = c in
-    let known = word in
-    let a = known.before.args in
+    let a = c.args in
     let s = a.s.now in
     let n = a.n in
     let small = struct_known.given in (
       five.0,
-      folded_more s (bytes-known s known.shared-slice-known.given) n.at word.word_at.ensures
+      folded_more s (bytes-known s c.type_inv.s) n.at c.word_at.ensures
           (n.b ∷ n.c ∷ n.d ∷ n.e ∷ []) (_ ∷ _ ∷ _ ∷ _ ∷ _ ∷ []) (omega arith)
           (omega (arith, small), (omega (arith, small), (omega (arith, small), (omega (arith, small), (omega (arith, small), tt)))))
           five.0 refl five.1,

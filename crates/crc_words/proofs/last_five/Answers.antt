@@ -8,26 +8,16 @@ use Rattle.crc_words.proofs.last_five.Goals as goal
 -- Assumes nothing.
 pub returns : goal.returns
 returns c =
-    let word5 = c in
-    let word4 = word5 in
-    let fold3 = word4.before in
-    let word3 = fold3.before.before in
-    let fold2 = word3.before in
-    let word2 = fold2.before.before in
-    let fold1 = word2.before in
-    let word1 = fold1.before.before in
-    let known = word1.before in
-    let start = known.before in
-    let s = start.args.s.now in
-    let p = fold1.fold-two.type-inv in
-    let q = fold2.fold-two2.type-inv in
-    let r = fold3.fold-two3.type-inv in
-    let n = fold1.before.struct_known.given in
+    let s = c.args.s.now in
+    let p = c.fold_two-p.type_inv in
+    let q = c.fold_two-q.type_inv in
+    let r = c.fold_two-t.type_inv in
+    let n = c.struct_known-1.given in
     c.fold_last.ensures
-    ∙ five-last s (bytes-known s known.shared-slice-known.given) start.args.n.at start.requires
-    word1.word_at.ensures word2.word-at2.ensures word3.word-at3.ensures word4.word-at4.ensures word5.word_at-5.ensures
+    ∙ five-last s (bytes-known s c.type_inv.s) c.args.n.at c.requires
+    c.word_at.ensures c.word_at-2.ensures c.word_at-3.ensures c.word_at-4.ensures c.word_at-5.ensures
     (omega (arith, n), (omega (arith, n), (omega (arith, n), (omega (arith, n), (omega (arith, n), tt)))))
     _ _ _ _ _ _
     (omega (arith, p), (omega (arith, p), tt)) (omega (arith, q), (omega (arith, q), tt)) (omega (arith, r), (omega (arith, r), tt))
-    (omega (arith, word4.word-at4.type-inv), (omega (arith, word5.word_at-5.type-inv), tt))
-    fold1.fold-two.ensures fold2.fold-two2.ensures fold3.fold-two3.ensures
+    (omega (arith, c.word_at-4.type_inv), (omega (arith, c.word_at-5.type_inv), tt))
+    c.fold_two-p.ensures c.fold_two-q.ensures c.fold_two-t.ensures

@@ -8,13 +8,10 @@ use Rattle.crc_words.proofs.read_on.Goals as goal
 -- Assumes nothing.
 pub returns : goal.returns
 returns c =
-    let word = c in
-    let fold = word in
-    let known = fold.before in
-    let a = known.before.args in
+    let a = c.args in
     let s = a.s.now in
-    let n = fold.fold-two.type-inv in (
+    let n = c.fold_two-n.type_inv in (
       refl,
-      folded_read s (bytes-known s known.shared-slice-known.given) a.m.at word.word_at.ensures a.m.word a.m.next
-          (omega arith) (omega (arith, n), (omega (arith, n), tt)) fold.fold-two.ensures,
+      folded_read s (bytes-known s c.type_inv.s) a.m.at c.word_at.ensures a.m.word a.m.next
+          (omega arith) (omega (arith, n), (omega (arith, n), tt)) c.fold_two-n.ensures,
     )

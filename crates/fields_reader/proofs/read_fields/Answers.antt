@@ -38,14 +38,6 @@ slice_bounds-read_locator-count c =
     let f = places-at s _ _ _ (sym fields-places.ensures ∙ c.in-At.is) in
     omega (arith, (laid s _ _ _ (bytes-known s c.type_inv.s) f).reaches)
 
-pub slice-bounds-read-locator-start : goal.slice-bounds-read-locator-start
-slice-bounds-read-locator-start c =
-    let args = c.args in
-    let fields-places = c.fields_places-places in
-    let s = args.s.now in
-    let f = places-at s _ _ _ (sym fields-places.ensures ∙ c.in-At.is) in
-    omega (arith, (laid s _ _ _ (bytes-known s c.type_inv.s) f).reaches)
-
 pub fields_got-requires-in-Got : goal.fields_got-requires-in-Got
 fields_got-requires-in-Got c =
     let args = c.args in

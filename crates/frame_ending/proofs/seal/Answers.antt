@@ -8,12 +8,14 @@ use Rattle.frame_ending.proofs.seal.Goals as goal
 pub returns-then-b-lt-CRC_LENGTH : goal.returns-then-b-lt-CRC_LENGTH
 returns-then-b-lt-CRC_LENGTH c =
     let args = c.args in
-    sealed-none args.b.now args.end (omega arith)
+    let both = sealed-none args.b.now args.end (omega arith) in
+    record { value = both.0; b_after = both.1 }
 
 pub returns-then-b-end : goal.returns-then-b-end
 returns-then-b-end c =
     let args = c.args in
-    sealed-none args.b.now args.end (omega arith)
+    let both = sealed-none args.b.now args.end (omega arith) in
+    record { value = both.0; b_after = both.1 }
 
 pub slice_bounds-crc32-end-2 : goal.slice_bounds-crc32-end-2
 slice_bounds-crc32-end-2 c = sym (length-take-le _ _ (omega arith))
@@ -23,4 +25,5 @@ returns c =
     let args = c.args in
     let crc32 = c.crc32-crc in
     let to-be32 = c.to_be32-bytes in
-    sealed-put args.b.now args.end _ _ _ (omega arith) crc32.ensures to-be32.ensures c.put_at.ensures.b_after
+    let both = sealed-put args.b.now args.end _ _ _ (omega arith) crc32.ensures to-be32.ensures c.put_at.ensures.b_after in
+    record { value = both.0; b_after = both.1 }

@@ -13,7 +13,7 @@ use Rattle.link_checker.proofs.check_link.Goals as goal
 pub loop-i-init : goal.loop-i-init
 loop-i-init c =
     let start = c.args in
-    let link = c.well-formed.1.0 in
+    let link = c.well_formed.1.0 in
     (search rules, (array-length start.link _ link, (rw c.none-texts.ensures (texts-start _ _), rw c.none-texts.ensures (omega arith))))
 
 pub joined-texts-requires : goal.joined-texts-requires

@@ -9,19 +9,14 @@ use Rattle.link.specs.declared.LinkItem.{LinkItem}
 use Rattle.link.specs.declared.LinkFields.{LinkFields}
 use Rattle.link_draft.specs.Writing.{front_parts, items_parts, tail_parts, link_parts, put_all, link_put}
 use Rattle.link_draft.proofs.Carriers.{array-length}
-use Rattle.link_writer.proofs.Stages.{puts-all, puts-length, items-on, items-done}
+use Rattle.link_writer.proofs.Stages.{left, puts-all, puts-length, items-on, items-done}
 use borrow.Author.Rules.{rules}
 use Rattle.link_writer.proofs.put_link.Goals as goal
-
--- `put_link` meets its contract: what is left to put, put from here on, makes the whole. Assumes nothing.
--- the parts that are left: the items from i on, and the tail
-abbrev left : List ℕ → List LinkItem → LinkFields → ℕ → List (List ℕ)
-left t items f i = items_parts t (drop i (take f.number_items items)) ++ tail_parts t f
 
 pub loop-i-init : goal.loop-i-init
 loop-i-init c =
     let start = c.args in
-    let link = c.well-formed.1.1.1.0 in
+    let link = c.well_formed.1.1.1.0 in
     (search rules, (array-length start.link _ link, (refl, refl)))
 
 pub loop-i-preserved : goal.loop-i-preserved

@@ -9,7 +9,7 @@ use Rattle.link.specs.declared.LinkItem.{LinkItem}
 use Rattle.link.specs.declared.LinkFields.{LinkFields}
 use Rattle.link_draft.specs.Writing.{front_parts, items_parts, tail_parts, link_parts, put_all, link_put}
 use Rattle.link_draft.proofs.Carriers.{array-length}
-use Rattle.link_writer.proofs.Stages.{puts-all, puts-length, items-on, items-done}
+use Rattle.link_writer.proofs.Stages.{left, puts-all, puts-length, items-on, items-done}
 use borrow.Author.Rules.{rules}
 use Rattle.link_writer.proofs.put_link.Given as goal
 

@@ -11,14 +11,14 @@ pub overflow_add-result : goal.overflow_add-result
 overflow_add-result c =
     let a = c.args in
     let put = c.put_at.ensures in
-    omega (arith, leb-true (a.at + length a.part.now) (length a.b.now) (sym put.0 ∙ c.if-put_at.true))
+    omega (arith, leb-true (a.at + length a.part.now) (length a.b.now) (sym put.value ∙ c.if-put_at.true))
 
 pub returns-then-put_at : goal.returns-then-put_at
 returns-then-put_at c =
     let put = c.put_at.ensures in
-    puts_one _ _ _ _ put.1
+    puts_one _ _ _ _ put.b_after
 
 pub returns-else-put_at : goal.returns-else-put_at
 returns-else-put_at c =
     let put = c.put_at.ensures in
-    puts-full _ _ _ _ put.1 (sym put.0 ∙ c.if-put_at.false)
+    puts-full _ _ _ _ put.b_after (sym put.value ∙ c.if-put_at.false)

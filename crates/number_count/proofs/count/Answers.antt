@@ -8,7 +8,7 @@ use Rattle.number_count.proofs.count.Goals as goal
 pub returns : goal.returns
 unfolding members
 returns c =
-    let f = carried c.args.set _ c.well-formed.0 in
+    let f = carried c.args.set _ c.well_formed.0 in
     let o = ones-words c.args.set.words f.four f.each in
     let w₁ = c.ones_of.ensures.0 in
     let w₂ = c.ones_of-2.ensures.0 in

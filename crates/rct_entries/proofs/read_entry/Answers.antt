@@ -26,20 +26,6 @@ slice_bounds-read_fields-count c =
     let k = length-passed args.payload.now _ args.at _ (sym past.ensures ∙ c.in-At.is) in
     search rules
 
-pub slice-bounds-read-fields-start : goal.slice-bounds-read-fields-start
-slice-bounds-read-fields-start c =
-    let args = c.args in
-    let past = c.past_entry_length-end in
-    let k = length-passed args.payload.now _ args.at _ (sym past.ensures ∙ c.in-At.is) in
-    search rules
-
-pub slice-bounds-read-fields-end : goal.slice-bounds-read-fields-end
-slice-bounds-read-fields-end c =
-    let args = c.args in
-    let past = c.past_entry_length-end in
-    let k = length-passed args.payload.now _ args.at _ (sym past.ensures ∙ c.in-At.is) in
-    search rules
-
 pub overflow_cast-start : goal.overflow_cast-start
 overflow_cast-start c =
     let args = c.args in

@@ -2,4 +2,6 @@ use borrow.Author.Rules.{rules}
 use Rattle.eallunsa.proofs.indexing.put_over.Goals as goal
 
 pub returns : goal.returns
-returns c = rw c.link.ensures at c.replace_placed.ensures
+returns c =
+    let both = rw c.link.ensures at c.replace_placed.ensures in
+    record { value = both.0; b_after = both.1 }

@@ -10,9 +10,8 @@ use Rattle.number_set.proofs.NumberSet.with.Goals as goal
 
 pub returns : goal.returns
 returns c =
-    let entry = c in
     let wide = c.wide-n in
-    let a = entry.args in
+    let a = c.args in
     with-words
     a.self _ a.member _ _ _ _ (carried a.self _ c.well_formed.0) (omega (arith, wide.ensures.1))
     c.told-a.ensures

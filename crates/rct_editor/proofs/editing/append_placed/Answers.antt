@@ -14,7 +14,8 @@ returns-then-most_links-count c =
     let most-links = c.most_links in
     let g = walked-read _ _ _ (sym checked-places.ensures ∙ c.in-Read.is) in
     let n = ap (λ (p : RctPlaces). p.count) g.1 in
-    append-full args.b.now args.text.now args.link g.0 _ (omega (arith, most-links.ensures, n)) c.most_links-then-most_links-count.ensures
+    let both = append-full args.b.now args.text.now args.link g.0 _ (omega (arith, most-links.ensures, n)) c.most_links-then-most_links-count.ensures in
+    record { value = both.0; b_after = both.1 }
 
 pub put_between-edited-requires : goal.put_between-edited-requires
 put_between-edited-requires c =
@@ -33,10 +34,12 @@ returns-else-most_links-count c =
     let g = walked-read _ _ _ (sym checked-places.ensures ∙ c.in-Read.is) in
     let n = ap (λ (p : RctPlaces). p.count) g.1 in
     let b = bytes-known args.b.now c.type_inv.b in
-    append-goes args.b.now args.text.now args.link g.0 _ (ap (λ (p : RctPlaces). p.loop_at) g.1) b _ _ _ _ _ n (ap (λ (p : RctPlaces). p.total) g.1) (omega (arith, most-links.ensures)) c.put_between-edited.ensures c.of.ensures
+    let both = append-goes args.b.now args.text.now args.link g.0 _ (ap (λ (p : RctPlaces). p.loop_at) g.1) b _ _ _ _ _ n (ap (λ (p : RctPlaces). p.total) g.1) (omega (arith, most-links.ensures)) c.put_between-edited.ensures c.of.ensures in
+    record { value = both.0; b_after = both.1 }
 
 pub returns-in-Refused : goal.returns-in-Refused
 returns-in-Refused c =
     let args = c.args in
     let checked-places = c.checked_places-walked in
-    append-unread args.b.now args.text.now args.link _ (walked-refused _ _ _ (sym checked-places.ensures ∙ c.in-Refused.is))
+    let both = append-unread args.b.now args.text.now args.link _ (walked-refused _ _ _ (sym checked-places.ensures ∙ c.in-Refused.is)) in
+    record { value = both.0; b_after = both.1 }

@@ -14,7 +14,8 @@ returns-then-count-number c =
     let args = c.args in
     let g = walked-read _ _ _ (sym checked-places.ensures ∙ c.in-Read.is) in
     let n = ap (λ (p : RctPlaces). p.count) g.1 in
-    replace-none args.b.now args.number args.text.now args.link g.0 _ _ n c.if-count-number.true c.no_such.ensures
+    let both = replace-none args.b.now args.number args.text.now args.link g.0 _ _ n c.if-count-number.true c.no_such.ensures in
+    record { value = both.0; b_after = both.1 }
 
 pub put_between-edited-requires : goal.put_between-edited-requires
 put_between-edited-requires c =
@@ -36,7 +37,8 @@ returns-in-At c =
     let n = ap (λ (p : RctPlaces). p.count) g.1 in
     let b = bytes-known args.b.now c.type_inv.b in
     let f = span-known args.b.now args.number _ _ (omega (arith, if1.false, n)) (ap (λ (p : RctPlaces). p.link) g.1 ∙ c.in-At.is) in
-    replace-goes args.b.now args.number args.text.now args.link g.0 _ _ f b (omega (arith, if1.false, n)) _ _ _ _ _ n (ap (λ (p : RctPlaces). p.total) g.1) c.put_between-edited.ensures c.of.ensures
+    let both = replace-goes args.b.now args.number args.text.now args.link g.0 _ _ f b (omega (arith, if1.false, n)) _ _ _ _ _ n (ap (λ (p : RctPlaces). p.total) g.1) c.put_between-edited.ensures c.of.ensures in
+    record { value = both.0; b_after = both.1 }
 
 pub returns-in-NoSuchLink : goal.returns-in-NoSuchLink
 returns-in-NoSuchLink c =
@@ -45,10 +47,12 @@ returns-in-NoSuchLink c =
     let if1 = c.if-count-number in
     let g = walked-read _ _ _ (sym checked-places.ensures ∙ c.in-Read.is) in
     let n = ap (λ (p : RctPlaces). p.count) g.1 in
-    absurd (span-absent args.b.now args.number (ap (λ (p : RctPlaces). p.link) g.1 ∙ c.in-NoSuchLink.is) (omega (arith, if1.false, n)))
+    let both = absurd (span-absent args.b.now args.number (ap (λ (p : RctPlaces). p.link) g.1 ∙ c.in-NoSuchLink.is) (omega (arith, if1.false, n))) in
+    record { value = both.0; b_after = both.1 }
 
 pub returns-in-Refused : goal.returns-in-Refused
 returns-in-Refused c =
     let args = c.args in
     let checked-places = c.checked_places-walked in
-    replace-unread args.b.now args.number args.text.now args.link _ (walked-refused _ _ _ (sym checked-places.ensures ∙ c.in-Refused.is))
+    let both = replace-unread args.b.now args.number args.text.now args.link _ (walked-refused _ _ _ (sym checked-places.ensures ∙ c.in-Refused.is)) in
+    record { value = both.0; b_after = both.1 }

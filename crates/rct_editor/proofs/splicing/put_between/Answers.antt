@@ -16,7 +16,8 @@ pub returns-in_default : goal.returns-in_default
 returns-in_default c =
     let args = c.args in
     let check-link = c.check_link-own in
-    between-own args.b.now args.from args.to args.count args.text.now args.link _ _ (own-refused _ _ _ _ check-link.ensures c.in_default.is) (rw c.in_default.is at c.refused.ensures)
+    let both = between-own args.b.now args.from args.to args.count args.text.now args.link _ _ (own-refused _ _ _ _ check-link.ensures c.in_default.is) (rw c.in_default.is at c.refused.ensures) in
+    record { value = both.0; b_after = both.1 }
 
 pub overflow_add-section_length-2 : goal.overflow_add-section_length-2
 overflow_add-section_length-2 c =
@@ -33,7 +34,8 @@ returns-in_default-room c =
     let pre = c.requires in
     let check-room = c.check_room-room in
     let o = owned args.b.now args.from args.to args.text.now args.link args.total _ check-link.ensures c.in-Fine.is pre.1.0 in
-    between-room args.b.now args.from args.to args.count args.text.now args.link o.fine _ o.is _ _ (sym check-room.ensures ∙ c.in_default-room.is) (rw c.in_default-room.is at c.refused-in_default-room.ensures)
+    let both = between-room args.b.now args.from args.to args.count args.text.now args.link o.fine _ o.is _ _ (sym check-room.ensures ∙ c.in_default-room.is) (rw c.in_default-room.is at c.refused-in_default-room.ensures) in
+    record { value = both.0; b_after = both.1 }
 
 pub overflow_add-behind-2 : goal.overflow_add-behind-2
 overflow_add-behind-2 c =
@@ -82,4 +84,5 @@ returns c =
     let spliced = spliced-put xs _ _ _ args.from args.to args.count args.text.now args.link (args.from + 2 + check-link.result.length) (payload-end.result - args.to) len o.fine tail put-entry.ensures numbers (omega (arith, o.size)) (omega (arith, payload-end.ensures, pre.1.0)) in
     let filled = fill.ensures ∙ fills _ _ _ (still-within _ _ _ _ _ _ (total-within _ _ _ _ pre.0 pre.1.0) c.b-1.given c.b-2-1.given c.b-3-1.given c.b-4-1.given) in
     let done = finished-put xs _ _ _ args.from args.to args.count args.text.now args.link len payload-end2.result c.seal-new.result args.total (room-passed _ _ room).enough spliced c.seal-new.ensures.b_after filled o.is payload-end2.ensures c.seal-new.ensures.value pre.1.0 in
-    between_done xs args.from args.to args.count args.text.now args.link o.fine _ o.is _ _ _ room done.1 done.0 c.accepted.ensures
+    let both = between_done xs args.from args.to args.count args.text.now args.link o.fine _ o.is _ _ _ room done.1 done.0 c.accepted.ensures in
+    record { value = both.0; b_after = both.1 }

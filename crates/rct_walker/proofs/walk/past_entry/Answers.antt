@@ -12,20 +12,6 @@ slice_bounds-check_body-count c =
     let k = length-passed args.payload.now _ args.at _ (sym past.ensures ∙ c.in-At.is) in
     search rules
 
-pub slice-bounds-check-body-start : goal.slice-bounds-check-body-start
-slice-bounds-check-body-start c =
-    let args = c.args in
-    let past = c.past_entry_length-end in
-    let k = length-passed args.payload.now _ args.at _ (sym past.ensures ∙ c.in-At.is) in
-    search rules
-
-pub slice-bounds-check-body-end : goal.slice-bounds-check-body-end
-slice-bounds-check-body-end c =
-    let args = c.args in
-    let past = c.past_entry_length-end in
-    let k = length-passed args.payload.now _ args.at _ (sym past.ensures ∙ c.in-At.is) in
-    search rules
-
 pub returns-in-Fine : goal.returns-in-Fine
 returns-in-Fine c =
     let args = c.args in

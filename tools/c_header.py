@@ -18,6 +18,9 @@ import sys
 root = pathlib.Path(__file__).resolve().parent.parent
 PREFIX = "eallunsa_"
 SCALARS = {"u8": ("uint8_t", 1), "u16": ("uint16_t", 2), "u32": ("uint32_t", 4), "u64": ("uint64_t", 8), "usize": ("size_t", 8)}
+# What may stand between an item's first attribute and the item, and between a function's head and its body.
+ATTRIBUTES = r"(?:#\[[^\n]*\]\s*)*"
+CLAUSES = r"(?:(?:requires|ensures)\b.*?)?"
 bad = []
 
 
@@ -44,7 +47,7 @@ def rattle():
     records, functions, constants = {}, {}, {}
     for path in sorted(root.glob("crates/*/src/**/*.rt")):
         text = re.sub(r"//.*", "", path.read_text())
-        for name, body in re.findall(r"#\[repr\(C\)\]\s*pub struct (\w+) \{(.*?)\n\}", text, re.S):
+        for name, body in re.findall(rf"#\[repr\(C\)\]\s*{ATTRIBUTES}pub struct (\w+) \{{(.*?)\n\}}", text, re.S):
             fields = re.findall(r"pub (\w+): ([^,]+),", body)
             if records.setdefault(name, fields) != fields:
                 bad.append(f"two records have the name {name}")
@@ -52,7 +55,7 @@ def rattle():
             constants.setdefault(name, set()).add(value)
         for name, value in re.findall(r"const (\w+): Field = Field \{[^}]*widest: (\d+)", text):
             constants[f"Field::{name}.widest"] = {value}
-        exported = r'#\[no_mangle\]\s*pub extern "C" fn (\w+)\((.*?)\)(?: -> (\w+))?\s*(?:ensures.*?)?\n\{(.*?)\n\}'
+        exported = rf'#\[unsafe\(no_mangle\)\]\s*{ATTRIBUTES}pub extern "C" fn (\w+)\((.*?)\)(?: -> (\w+))?\s*{CLAUSES}\n\{{(.*?)\n\}}'
         if path.is_relative_to(root / "crates/eallunsa"):
             for name, given, answer, body in re.findall(exported, text, re.S):
                 functions[name] = (re.findall(r"(\w+): ([^,]+?)\s*(?:,|$)", given), answer, called(body, text))

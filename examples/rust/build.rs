@@ -1,5 +1,5 @@
 //! Links libeallunsa.a: from the folder that EALLUNSA_LIB names by its whole path, or from where `tools/package` or
-//! `rt staticlib eallunsa` has put it.
+//! `rt lib` in crates/eallunsa has put it.
 
 use std::path::{Path, PathBuf};
 
@@ -8,7 +8,7 @@ fn main() {
     let here = Path::new(env!("CARGO_MANIFEST_DIR"));
     let folders = match std::env::var_os("EALLUNSA_LIB") {
         Some(folder) => vec![PathBuf::from(folder)],
-        None => vec![here.join("../../../../lib"), here.join("../../target/staticlib")],
+        None => vec![here.join("../../../../lib"), here.join("../../crates/eallunsa/out")],
     };
     let found = folders.iter().find(|folder| folder.join("libeallunsa.a").is_file());
     let folder =

@@ -1,4 +1,4 @@
-// The library's calls by names that a C program can call, built by `rt staticlib eallunsa`. A slice is a pointer and a number of
+// The library's calls by names that a C program can call, built by `rt lib` in this folder. A slice is a pointer and a number of
 // bytes; records go in and out by value and hold numbers alone.
 #![tactic(auto)]
 

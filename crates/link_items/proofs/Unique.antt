@@ -12,14 +12,14 @@ use Rattle.link_items.proofs.step_from.Reads as step-from-reads
 use Rattle.link_items.proofs.item_after.Kinds as item-after-kinds
 use Rattle.link_items.proofs.item_after.Reads as item-after-reads
 
-pub items-one : WrittenOne items.ended (λ M. items.clauses {M = M})
+pub items-one : WrittenOne items.ended (λ M 𝓤. items.clauses {M = M} {𝓤 = 𝓤})
 items-one =
     record {
       total = λ M 𝓤 𝓛 m run κs a g. id⊢ 𝓤 (emp 𝓤);
       one = λ M 𝓤 𝓛 m run κs a g x y v w. of-fact 𝓤 (λ p q. (both p q, refl));
     }
 
-pub next_one : WrittenOne next.ended (λ M. next.clauses {M = M})
+pub next_one : WrittenOne next.ended (λ M 𝓤. next.clauses {M = M} {𝓤 = 𝓤})
 next_one =
     record {
       total = λ M 𝓤 𝓛 m run κs a g. id⊢ 𝓤 (emp 𝓤);

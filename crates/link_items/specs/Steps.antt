@@ -28,7 +28,7 @@ moved_to xs n = moved_from 0 xs n
 abbrev pub stepped : List ℕ → ℕ → Stepped
 stepped xs n = stepped_from 0 xs n
 
--- ---- the reader: the slice that it was given, pointer and name included, and the number of the next item
+-- ---- the reader: the slice that it was given, its place in memory included, and the number of the next item
 
 abbrev pub reader_of : Bor (List ℕ) → ItemReader
 reader_of s = record { body = s; next = 0 }

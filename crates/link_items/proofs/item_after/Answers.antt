@@ -1,10 +1,8 @@
-use Prim.Native.Nat.{◌-◌, ◌≤◌}
 use mathlib.Core.Path.{◌≡◌, refl, sym, ap, ◌∙◌}
 use native.Mathlib.Omega.{arith}
 use Rattle.link.specs.Answers.{item_read}
 use Rattle.link_items.specs.Steps.{number_after}
 use Rattle.link_items.proofs.Laws.{number-on, refused-stays}
-use borrow.Author.Rules.{rules}
 use Rattle.link_items.proofs.item_after.Goals as goal
 
 pub loop-number-init : goal.loop-number-init

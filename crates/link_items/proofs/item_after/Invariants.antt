@@ -1,14 +1,7 @@
-use Prim.Native.Nat.{◌-◌, ◌≤◌}
-use mathlib.Core.Path.{◌≡◌, refl, sym, ap, ◌∙◌}
-use native.Mathlib.Omega.{arith}
-use Rattle.link.specs.Answers.{item_read}
+use Prim.Native.Nat.{◌≤◌}
+use mathlib.Core.Path.{◌≡◌}
 use Rattle.link_items.specs.Steps.{number_after}
-use Rattle.link_items.proofs.Laws.{number-on, refused-stays}
-use borrow.Author.Rules.{rules}
 use Rattle.link_items.proofs.item_after.Given as goal
 
 abbrev pub invariant-loop-number : goal.invariant-loop-number
 invariant-loop-number l = (l.number ≤ l.steps) × (number_after l.body l.number ≡ l.number)
-
-abbrev pub decreases-loop-number : goal.decreases-loop-number
-decreases-loop-number l = l.steps - l.number

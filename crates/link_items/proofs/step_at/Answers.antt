@@ -1,7 +1,6 @@
 use mathlib.Core.Path.{sym, ◌∙◌}
 use native.Mathlib.Omega.{arith}
 use Rattle.link_items.proofs.Laws.{moved-got, moved-not, got-below}
-use borrow.Author.Rules.{rules}
 use Rattle.link_items.proofs.step_at.Goals as goal
 
 pub overflow_add-result : goal.overflow_add-result

@@ -41,7 +41,7 @@ pub rebuilt-section : (xs zs : List ℕ) → Bytes xs → (plain_read xs).verdic
     → declared xs ≤ limit → total_of xs ≤ length zs → RebuiltSection xs zs
 rebuilt-section xs zs b p i l r =
     record {
-      links_read = λ k h. ap (λ (n : LinkRead). n.verdict) (link-answer xs b k v (omega (arith, counted)));
+      links_are_read = λ k h. ap (λ (n : LinkRead). n.verdict) (link-answer xs b k v (omega (arith, counted)));
       none_refused = rw counted all.accepted;
       total =
           ap (λ n. (append_all (made_again zs xs) xs (links_from n 0 xs)).total) counted

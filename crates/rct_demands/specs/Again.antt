@@ -41,7 +41,7 @@ rebuilt_in zs xs = append_all (made_again zs xs) xs (links_read xs)
 -- Link by number is fine for each link, and no call that writes is refused. The last one answers the section's total.
 -- The buffer then has the old bytes up to the CRC, the right CRC, and what lay behind.
 pub record RebuiltSection (xs zs : List ℕ) : Type 0 where
-  pub links_read : (k : ℕ) → k < (plain_read xs).number_of_links → (numbered_link xs k).verdict ≡ Fine
+  pub links_are_read : (k : ℕ) → k < (plain_read xs).number_of_links → (numbered_link xs k).verdict ≡ Fine
   pub none_refused : AllAccepted (made_again zs xs) xs (links_read xs)
   pub total : (rebuilt_in zs xs).total ≡ total_of xs
   pub bytes : (rebuilt_in zs xs).buffer ≡ (take (payload_end xs) xs ++ bytes32 (crc_of (take (payload_end xs) xs))) ++ drop (total_of xs) zs

@@ -19,7 +19,7 @@ use Rattle.rct.specs.Reading.{count_at, section_at, plain}
 use Rattle.rct_bodies.specs.Bodies.{body_of}
 use Rattle.rct_bodies.specs.declared.NumberedBody.{NumberedBody}
 use Rattle.rct_bodies.proofs.Bodies.{rows-fine, body-found, LinkKnown, link-known}
-use Rattle.rct_links.proofs.Images.{items_at, in-range}
+use Rattle.rct_links.proofs.Images.{items_at_lem, in-range}
 use Rattle.rct_parts.specs.Parts.{body_part}
 
 module _ (xs : List ℕ) (b : Bytes xs) (k : ℕ) (v : plain xs ≡ Fine) (h : k < count_at xs) where
@@ -53,4 +53,4 @@ module _ (xs : List ℕ) (b : Bytes xs) (k : ℕ) (v : plain xs ≡ Fine) (h : k
   text-handed i d e l =
       let row : item_row (body_of xs k) i ≡ Fine = in-range xs b k v h i l in
       rw (body-handed, known.link d, fine-then (body_verdict (body_of xs k)) _ known.good row)
-      (sym (ap (λ (m : Item). m.text) (items_at (item_count (body_of xs k)) i (body_of xs k) (items_place (body_of xs k)) e l)))
+      (sym (ap (λ (m : Item). m.text) (items_at_lem (item_count (body_of xs k)) i (body_of xs k) (items_place (body_of xs k)) e l)))

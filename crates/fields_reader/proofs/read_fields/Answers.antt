@@ -38,6 +38,12 @@ slice_bounds-read_locator-count c =
     let f = places-at s _ _ _ (sym fields-places.ensures ∙ c.in-At.is) in
     omega (arith, (laid s _ _ _ (bytes-known s c.type_inv.s) f).reaches)
 
+pub slice_bounds-read_locator-start : goal.slice_bounds-read_locator-start
+slice_bounds-read_locator-start c =
+    let s = c.args.s.now in
+    let f = places-at s _ _ _ (sym c.fields_places-places.ensures ∙ c.in-At.is) in
+    omega (arith, (laid s _ _ _ (bytes-known s c.type_inv.s) f).reaches)
+
 pub fields_got-requires-in-Got : goal.fields_got-requires-in-Got
 fields_got-requires-in-Got c =
     let args = c.args in

@@ -58,7 +58,7 @@ pub overflow_cast-result-3 : goal.overflow_cast-result-3
 overflow_cast-result-3 c =
     let of-bytes = c.of_bytes-field in
     let args = c.args in
-    omega (arith, ap (λ (f : LengthField). f.length) of-bytes.ensures, c.type_inv.s (args.loop-at + 1))
+    omega (arith, ap (λ (f : LengthField). f.length) of-bytes.ensures, c.type_inv.s (args.loop_at + 1))
 
 pub returns : goal.returns
 unfolding section_read

@@ -1,5 +1,6 @@
-// The lines of standard input, which is read a block at a time.
-use libc::STDIN_FILENO;
+// The lines of an input, which is read a block at a time.
+use std::io;
+use std::io::Read;
 
 // The part of the block that is still to be taken: none of it where the input is over.
 #[derive(Clone, Copy)]
@@ -25,20 +26,17 @@ pub fn char_at(line: &[u8], at: usize) -> u8 {
     b'\n'
 }
 
-fn fill(block: &mut [u8]) -> Unread {
-    let got = libc::read(STDIN_FILENO, block);
-    Unread {
-        from: 0,
-        to: io::count(got, block),
-    }
+fn fill(input: &mut impl Read, block: &mut [u8]) -> io::Result<Unread> {
+    let to = input.read(block)?;
+    Ok(Unread { from: 0, to })
 }
 
 // A new block where the old one is used up.
-fn refill(block: &mut [u8], unread: Unread) -> Unread {
+fn refill(input: &mut impl Read, block: &mut [u8], unread: Unread) -> io::Result<Unread> {
     if unread.from < unread.to {
-        return unread;
+        return Ok(unread);
     }
-    fill(block)
+    fill(input, block)
 }
 
 impl Unread {
@@ -85,20 +83,23 @@ fn keep(line: &mut [u8], kept: usize, c: u8) -> usize {
     line.len() + 1
 }
 
-// A proved loop has to end, and nothing says that a line does: so it counts down from a number that no run uses up.
-pub fn read_line(block: &mut [u8], line: &mut [u8], unread: Unread) -> Line {
+// A proved loop has to end, and nothing says that a line does: so it counts up to a number that no run uses up.
+pub fn read_line(
+    input: &mut impl Read,
+    block: &mut [u8],
+    line: &mut [u8],
+    unread: Unread,
+) -> io::Result<Line> {
     let mut unread = unread;
     let mut kept: usize = 0;
-    let mut turns = u64::MAX;
-    while turns > 0 {
-        unread = refill(block, unread);
+    for _ in 0..u64::MAX {
+        unread = refill(input, block, unread)?;
         let c = unread.next(block);
         if c == b'\n' {
-            return unread.ended(kept);
+            return Ok(unread.ended(kept));
         }
         kept = keep(line, kept, c);
         unread = unread.passed();
-        turns -= 1;
     }
-    unread.ended(0)
+    Ok(unread.ended(0))
 }

@@ -1,18 +1,18 @@
 // Printing by forms. What one of these functions prints is gathered in a block, which is written when it is full and at the
 // end. Counts and places are added by wrapping sums: none comes near the end of its type, and no proof has to say so.
-use crate::digits::glyph;
+use crate::digits::{Digits, MOST_DIGITS, decimal, glyph};
 use crate::{Short, Word};
-use libc::STDOUT_FILENO;
+use std::io;
 use wire::verdict::Refusal;
 
 // The characters that a block has, and the most of them that one character of a form stands for: a number's digits.
 const BLOCK: usize = 512;
 
-const LONGEST: usize = 20;
+const LONGEST: usize = MOST_DIGITS;
 
 type Block = [u8; BLOCK];
 
-type Text = [u8; LONGEST];
+type Text = Digits;
 
 const REFUSED: Short = *b"refused ________________";
 
@@ -43,7 +43,7 @@ fn spell_byte(text: &mut Text, byte: u8) -> usize {
 fn spell_part(text: &mut Text, c: u8, number: u16) -> usize {
     match c {
         b'_' => 0,
-        b'#' | b'%' | b'~' | b'?' => io::decimal(number as u64, text),
+        b'#' | b'%' | b'~' | b'?' => decimal(number as usize, text),
         b'*' => spell_byte(text, (number % 256) as u8),
         _ => spell_letter(text, c),
     }
@@ -82,12 +82,12 @@ fn spell(text: &mut Text, c: u8, spelling: Spelling, number: u16) -> usize {
 }
 
 // Writes what waits, so that nothing waits any more.
-fn flush(out: i32, block: &Block, n: usize) -> usize {
+fn flush(out: &impl Print, block: &Block, n: usize) -> io::Result<usize> {
     let bytes: &[u8] = block;
     if n <= bytes.len() {
-        io::write_all(out, &bytes[0..n]);
+        out.write_all(&bytes[0..n])?;
     }
-    0
+    Ok(0)
 }
 
 fn put_front(block: &mut [u8], n: usize, text: &[u8], length: usize) {
@@ -97,13 +97,19 @@ fn put_front(block: &mut [u8], n: usize, text: &[u8], length: usize) {
 }
 
 // Keeps a text behind the `n` characters that wait, and answers how many wait then: few enough for one text more.
-fn gather(out: i32, block: &mut Block, n: usize, text: &Text, length: usize) -> usize {
+fn gather(
+    out: &impl Print,
+    block: &mut Block,
+    n: usize,
+    text: &Text,
+    length: usize,
+) -> io::Result<usize> {
     put_front(block, n, text, length);
     let n = std::num::wrapping_add_usize(n, length);
     if n > BLOCK - LONGEST {
         return flush(out, block, n);
     }
-    n
+    Ok(n)
 }
 
 fn number_at(numbers: &[u16], i: usize) -> u16 {
@@ -121,65 +127,68 @@ fn used_by(c: u8, used: usize) -> usize {
     }
 }
 
-// The one loop of all printing: bytes to an open file by one of the spellings, with the numbers that a form has.
-pub fn put_to(out: i32, bytes: &[u8], spelling: Spelling, numbers: &[u16]) {
+// The one loop of all printing: bytes by one of the spellings, with the numbers that a form has.
+pub fn put_to(
+    out: &impl Print,
+    bytes: &[u8],
+    spelling: Spelling,
+    numbers: &[u16],
+) -> io::Result<()> {
     let mut block = [0u8; BLOCK];
     let mut text = [0u8; LONGEST];
     let mut n: usize = 0;
     let mut used: usize = 0;
-    let mut i: usize = 0;
-    while i < bytes.len() {
-        let c = bytes[i];
-        let length = spell(&mut text, c, spelling, number_at(numbers, used));
-        n = gather(out, &mut block, n, &text, length);
-        used = used_by(c, used);
-        i += 1;
+    for c in bytes {
+        let length = spell(&mut text, *c, spelling, number_at(numbers, used));
+        n = gather(out, &mut block, n, &text, length)?;
+        used = used_by(*c, used);
     }
-    flush(out, &block, n);
+    flush(out, &block, n)?;
+    Ok(())
 }
 
 // A form with its numbers.
-pub fn put(form: &[u8], numbers: &[u16]) {
-    put_to(STDOUT_FILENO, form, Spelling::Form, numbers);
+pub fn put(rt: &impl Print, form: &[u8], numbers: &[u16]) -> io::Result<()> {
+    put_to(rt, form, Spelling::Form, numbers)
 }
 
 // Bytes to base 16.
-pub fn put_hex(bytes: &[u8]) {
-    put_to(STDOUT_FILENO, bytes, Spelling::Hex, &[]);
+pub fn put_hex(rt: &impl Print, bytes: &[u8]) -> io::Result<()> {
+    put_to(rt, bytes, Spelling::Hex, &[])
 }
 
 // Bytes as text.
-pub fn put_text(bytes: &[u8]) {
-    put_to(STDOUT_FILENO, bytes, Spelling::Text, &[]);
+pub fn put_text(rt: &impl Print, bytes: &[u8]) -> io::Result<()> {
+    put_to(rt, bytes, Spelling::Text, &[])
 }
 
-pub fn put_short(form: Short, numbers: [u16; 4]) {
-    put(&form, &numbers);
+pub fn put_short(rt: &impl Print, form: Short, numbers: [u16; 4]) -> io::Result<()> {
+    put(rt, &form, &numbers)
 }
 
 // A short form that has no numbers.
-pub fn say(form: Short) {
-    put_short(form, [0; 4]);
+pub fn say(rt: &impl Print, form: Short) -> io::Result<()> {
+    put_short(rt, form, [0; 4])
 }
 
-pub fn end_line() {
-    say(NEWLINE);
+pub fn end_line(rt: &impl Print) -> io::Result<()> {
+    say(rt, NEWLINE)
 }
 
-pub fn put_word(word: Word) {
-    put(&word, &[]);
+pub fn put_word(rt: &impl Print, word: Word) -> io::Result<()> {
+    put(rt, &word, &[])
 }
 
 // A number of any width.
-pub fn put_number(number: usize) {
-    io::print_decimal(STDOUT_FILENO, number as u64);
+pub fn put_number(rt: &impl Print, number: usize) -> io::Result<()> {
+    rt.print(number)
 }
 
-pub fn put_refusal(r: Refusal) {
-    say(REFUSED);
-    put_number(wire::wide(r.number));
-    say(SPACE);
-    put_number(r.first);
-    say(SPACE);
-    put_number(r.second);
+pub fn put_refusal(rt: &impl Print, r: Refusal) -> io::Result<()> {
+    say(rt, REFUSED)?;
+    put_number(rt, wire::wide(r.number))?;
+    say(rt, SPACE)?;
+    put_number(rt, r.first)?;
+    say(rt, SPACE)?;
+    put_number(rt, r.second)
 }

@@ -9,6 +9,7 @@ use desk_records::section_words::read_section;
 use script::calls::{NUMBER, call_of, is_understood};
 use script::read::read_short;
 use script::scan::Scan;
+use std::io;
 
 const CALLS: [Short; 3] = [
     *b"make____________________",
@@ -16,45 +17,54 @@ const CALLS: [Short; 3] = [
     *b"replace_________________",
 ];
 
-fn make(line: &[u8], scan: Scan, b: &mut [u8], text: &[u8]) {
+fn make(rt: &impl Print, line: &[u8], scan: Scan, b: &mut [u8], text: &[u8]) -> io::Result<()> {
     let read = read_section(line, scan);
     let header = read.header;
     let descriptors = read.descriptors;
-    if is_understood(line, read.scan) {
+    if is_understood(rt, line, read.scan)? {
         let edited = rct_maker::make(b, header, read.reserved, text, descriptors);
-        put_edited(&b[..], edited);
+        put_edited(rt, &b[..], edited)?;
     }
+    Ok(())
 }
 
-fn append(line: &[u8], scan: Scan, b: &mut [u8], text: &[u8]) {
+fn append(rt: &impl Print, line: &[u8], scan: Scan, b: &mut [u8], text: &[u8]) -> io::Result<()> {
     let read = read_link(line, scan);
     let link = read.link;
-    if is_understood(line, read.scan) {
+    if is_understood(rt, line, read.scan)? {
         let edited = rct_editor::editing::append(b, text, link);
-        put_edited(&b[..], edited);
+        put_edited(rt, &b[..], edited)?;
     }
+    Ok(())
 }
 
-fn replace(line: &[u8], scan: Scan, b: &mut [u8], text: &[u8]) {
+fn replace(rt: &impl Print, line: &[u8], scan: Scan, b: &mut [u8], text: &[u8]) -> io::Result<()> {
     let number = read_short(line, scan, NUMBER);
     let read = read_link(line, number.scan);
     let link = read.link;
-    if is_understood(line, read.scan) {
+    if is_understood(rt, line, read.scan)? {
         let edited = rct_editor::editing::replace(b, number.numbers.0 as usize, text, link);
-        put_edited(&b[..], edited);
+        put_edited(rt, &b[..], edited)?;
     }
+    Ok(())
 }
 
 // Carries out the call that a line has, if it is one of these. The answer: whether it is.
-pub fn carry_out(line: &[u8], line_number: usize, b: &mut [u8], text: &[u8]) -> bool {
+pub fn carry_out(
+    rt: &impl Print,
+    line: &[u8],
+    line_number: usize,
+    b: &mut [u8],
+    text: &[u8],
+) -> io::Result<bool> {
     let call = call_of(line, line_number, &CALLS);
     let scan = call.scan;
     let number = call.number;
     match number {
-        1 => make(line, scan, b, text),
-        2 => append(line, scan, b, text),
-        3 => replace(line, scan, b, text),
-        _ => return false,
+        1 => make(rt, line, scan, b, text)?,
+        2 => append(rt, line, scan, b, text)?,
+        3 => replace(rt, line, scan, b, text)?,
+        _ => return Ok(false),
     }
-    true
+    Ok(true)
 }

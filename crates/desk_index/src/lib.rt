@@ -12,6 +12,7 @@ use rct_index::{IndexBuilt, IndexEdited, RctIndex};
 use script::calls::{NUMBER, OK, SET, call_of, is_understood};
 use script::read::read_short;
 use script::scan::Scan;
+use std::io;
 use wire::verdict::Verdict;
 
 const CALLS: [Short; 4] = [
@@ -38,84 +39,105 @@ impl Kept {
 }
 
 // A refused building gives zeros, and they are kept.
-fn put_built(built: IndexBuilt) -> RctIndex {
+fn put_built(rt: &impl Print, built: IndexBuilt) -> io::Result<RctIndex> {
     let verdict = built.verdict;
     let index = built.index;
     match verdict {
-        Verdict::Refused(refusal) => put_refusal(refusal),
-        Verdict::Fine => say(OK),
+        Verdict::Refused(refusal) => put_refusal(rt, refusal)?,
+        Verdict::Fine => say(rt, OK)?,
     }
-    put_index(index);
-    index
+    put_index(rt, index)?;
+    Ok(index)
 }
 
 // What an edit answered, and the index as it was brought up.
-fn put_brought(b: &[u8], brought: IndexEdited) -> RctIndex {
+fn put_brought(rt: &impl Print, b: &[u8], brought: IndexEdited) -> io::Result<RctIndex> {
     let edited = brought.edited;
     let index = brought.index;
-    put_edited(b, edited);
-    put_index(index);
-    index
+    put_edited(rt, b, edited)?;
+    put_index(rt, index)?;
+    Ok(index)
 }
 
-fn build(line: &[u8], scan: Scan, s: &[u8], index: RctIndex) -> RctIndex {
-    if is_understood(line, scan) {
-        return put_built(rct_indexer::build_index(s));
+fn build(
+    rt: &impl Print,
+    line: &[u8],
+    scan: Scan,
+    s: &[u8],
+    index: RctIndex,
+) -> io::Result<RctIndex> {
+    if is_understood(rt, line, scan)? {
+        return put_built(rt, rct_indexer::build_index(s));
     }
-    index
+    Ok(index)
 }
 
-fn hand_in(line: &[u8], scan: Scan, index: RctIndex) -> RctIndex {
+fn hand_in(rt: &impl Print, line: &[u8], scan: Scan, index: RctIndex) -> io::Result<RctIndex> {
     let read = read_index(line, scan);
     let handed = read.index;
-    if is_understood(line, read.scan) {
-        say(SET);
-        return handed;
+    if is_understood(rt, line, read.scan)? {
+        say(rt, SET)?;
+        return Ok(handed);
     }
-    index
+    Ok(index)
 }
 
-fn append(line: &[u8], scan: Scan, b: &mut [u8], text: &[u8], index: RctIndex) -> RctIndex {
+fn append(
+    rt: &impl Print,
+    line: &[u8],
+    scan: Scan,
+    b: &mut [u8],
+    text: &[u8],
+    index: RctIndex,
+) -> io::Result<RctIndex> {
     let read = read_link(line, scan);
     let link = read.link;
-    if is_understood(line, read.scan) {
+    if is_understood(rt, line, read.scan)? {
         let brought = rct_index_editor::append(b, text, link, index);
-        return put_brought(&b[..], brought);
+        return put_brought(rt, &b[..], brought);
     }
-    index
+    Ok(index)
 }
 
-fn replace(line: &[u8], scan: Scan, b: &mut [u8], text: &[u8], index: RctIndex) -> RctIndex {
+fn replace(
+    rt: &impl Print,
+    line: &[u8],
+    scan: Scan,
+    b: &mut [u8],
+    text: &[u8],
+    index: RctIndex,
+) -> io::Result<RctIndex> {
     let number = read_short(line, scan, NUMBER);
     let read = read_link(line, number.scan);
     let link = read.link;
-    if is_understood(line, read.scan) {
+    if is_understood(rt, line, read.scan)? {
         let k = number.numbers.0 as usize;
         let brought = rct_index_editor::replace(b, k, text, link, index);
-        return put_brought(&b[..], brought);
+        return put_brought(rt, &b[..], brought);
     }
-    index
+    Ok(index)
 }
 
 // Carries out the call that a line has, if it is one of these.
 pub fn carry_out(
+    rt: &impl Print,
     line: &[u8],
     line_number: usize,
     b: &mut [u8],
     text: &[u8],
     index: RctIndex,
-) -> Kept {
+) -> io::Result<Kept> {
     let call = call_of(line, line_number, &CALLS);
     let scan = call.scan;
     let number = call.number;
     match number {
-        1 => Kept::mine(build(line, scan, &b[..], index)),
-        2 => Kept::mine(hand_in(line, scan, index)),
-        3 => Kept::mine(append(line, scan, b, text, index)),
-        4 => Kept::mine(replace(line, scan, b, text, index)),
-        _ => Kept {
+        1 => Ok(Kept::mine(build(rt, line, scan, &b[..], index)?)),
+        2 => Ok(Kept::mine(hand_in(rt, line, scan, index)?)),
+        3 => Ok(Kept::mine(append(rt, line, scan, b, text, index)?)),
+        4 => Ok(Kept::mine(replace(rt, line, scan, b, text, index)?)),
+        _ => Ok(Kept {
             is_mine: false,
             index,
-        },
+        }),
     }
 }

@@ -7,6 +7,7 @@ use rct_index::{LinkSets, RctIndex};
 use script::calls::NUMBERS;
 use script::read::read_short;
 use script::scan::Scan;
+use std::io;
 
 const URI: Short = *b" index uri=_____________";
 
@@ -42,12 +43,11 @@ fn read_places(line: &[u8], s: Scan, first: u16) -> PlacesScan {
     PlacesScan { scan, places }
 }
 
-fn put_places(places: &[u16]) {
-    let mut i: usize = 1;
-    while i < places.len() {
-        put_short(NEXT, [RctIndex::place(places, i), 0, 0, 0]);
-        i += 1;
+fn put_places(rt: &impl Print, places: &[u16]) -> io::Result<()> {
+    for i in 1..places.len() {
+        put_short(rt, NEXT, [RctIndex::place(places, i), 0, 0, 0])?;
     }
+    Ok(())
 }
 
 #[derive(Drop)]
@@ -76,27 +76,27 @@ pub fn read_index(line: &[u8], s: Scan) -> IndexScan {
     IndexScan { scan, index }
 }
 
-fn put_sets(sets: LinkSets) {
+fn put_sets(rt: &impl Print, sets: LinkSets) -> io::Result<()> {
     let uri = sets.uri;
     let locator = sets.locator;
     let icon = sets.icon;
-    say(URI);
-    put_set(uri);
-    say(LOCATOR);
-    put_set(locator);
-    say(ICON);
-    put_set(icon);
-    say(COUNTS);
-    put_number(number_count::count(uri));
-    say(COMMA);
-    put_number(number_count::count(locator));
-    say(COMMA);
-    put_number(number_count::count(icon));
+    say(rt, URI)?;
+    put_set(rt, uri)?;
+    say(rt, LOCATOR)?;
+    put_set(rt, locator)?;
+    say(rt, ICON)?;
+    put_set(rt, icon)?;
+    say(rt, COUNTS)?;
+    put_number(rt, number_count::count(uri))?;
+    say(rt, COMMA)?;
+    put_number(rt, number_count::count(locator))?;
+    say(rt, COMMA)?;
+    put_number(rt, number_count::count(icon))
 }
 
-pub fn put_index(index: RctIndex) {
+pub fn put_index(rt: &impl Print, index: RctIndex) -> io::Result<()> {
     let sets = index.sets;
-    put_sets(sets);
-    put_short(FIRST, [index.descriptors, index.places[0], 0, 0]);
-    put_places(&index.places);
+    put_sets(rt, sets)?;
+    put_short(rt, FIRST, [index.descriptors, index.places[0], 0, 0])?;
+    put_places(rt, &index.places)
 }

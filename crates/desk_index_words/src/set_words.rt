@@ -4,6 +4,7 @@ use console::print::{put_hex, say};
 use number_set::NumberSet;
 use script::read::{Numbers, read_short};
 use script::scan::Scan;
+use std::io;
 use wire::{be32, to_be32};
 
 // The first word of a set and the others in a call: eight bytes each, the highest first.
@@ -52,22 +53,22 @@ pub fn read_set(line: &[u8], s: Scan) -> SetScan {
     }
 }
 
-fn put_half(half: u32) {
+fn put_half(rt: &impl Print, half: u32) -> io::Result<()> {
     let bytes = to_be32(half);
-    put_hex(&bytes);
+    put_hex(rt, &bytes)
 }
 
-fn put_digits(word: u64) {
-    put_half((word / HALF) as u32);
-    put_half((word % HALF) as u32);
+fn put_digits(rt: &impl Print, word: u64) -> io::Result<()> {
+    put_half(rt, (word / HALF) as u32)?;
+    put_half(rt, (word % HALF) as u32)
 }
 
-pub fn put_set(set: NumberSet) {
-    put_digits(set.words[0]);
-    say(COMMA);
-    put_digits(set.words[1]);
-    say(COMMA);
-    put_digits(set.words[2]);
-    say(COMMA);
-    put_digits(set.words[3]);
+pub fn put_set(rt: &impl Print, set: NumberSet) -> io::Result<()> {
+    put_digits(rt, set.words[0])?;
+    say(rt, COMMA)?;
+    put_digits(rt, set.words[1])?;
+    say(rt, COMMA)?;
+    put_digits(rt, set.words[2])?;
+    say(rt, COMMA)?;
+    put_digits(rt, set.words[3])
 }

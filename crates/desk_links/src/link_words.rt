@@ -7,6 +7,7 @@ use link::{LangCode, LinkFields, LinkInfo, LinkItem, LinkLocator, MediaUri};
 use script::form::Part;
 use script::read::{Numbers, read, read_short};
 use script::scan::Scan;
+use std::io;
 
 // What comes before the URI, before the locator, between it and the number of items, and behind the items.
 const HEAD: [u8; 63] = *b" link lres=# type=# tres=# related=# term=# group=# prec=# uri=";
@@ -34,10 +35,10 @@ fn uri_of(is_absent: bool, n: Numbers) -> MediaUri {
     MediaUri::Present(range)
 }
 
-fn put_uri(s: &[u8], uri: MediaUri) {
+fn put_uri(rt: &impl Print, s: &[u8], uri: MediaUri) -> io::Result<()> {
     match uri {
-        MediaUri::Absent => say(ABSENT),
-        MediaUri::Present(range) => put_range(s, range),
+        MediaUri::Absent => say(rt, ABSENT),
+        MediaUri::Present(range) => put_range(rt, s, range),
     }
 }
 
@@ -64,10 +65,10 @@ fn read_link_locator(line: &[u8], s: Scan) -> LinkLocatorScan {
     }
 }
 
-fn put_link_locator(locator: LinkLocator) {
+fn put_link_locator(rt: &impl Print, locator: LinkLocator) -> io::Result<()> {
     match locator {
-        LinkLocator::Absent => say(ABSENT),
-        LinkLocator::Present(present) => put_locator(present),
+        LinkLocator::Absent => say(rt, ABSENT),
+        LinkLocator::Present(present) => put_locator(rt, present),
     }
 }
 
@@ -100,11 +101,12 @@ fn read_item(line: &[u8], s: Scan) -> ItemScan {
     }
 }
 
-pub fn put_item(s: &[u8], item: LinkItem) {
+pub fn put_item(rt: &impl Print, s: &[u8], item: LinkItem) -> io::Result<()> {
     let language = item.language_code;
     let text = item.promotional_text;
-    say(ITEM);
+    say(rt, ITEM)?;
     put_short(
+        rt,
         LANGUAGE,
         [
             language.first as u16,
@@ -112,8 +114,8 @@ pub fn put_item(s: &[u8], item: LinkItem) {
             language.third as u16,
             0,
         ],
-    );
-    put_range(s, text);
+    )?;
+    put_range(rt, s, text)
 }
 
 #[derive(Drop)]
@@ -143,16 +145,15 @@ fn read_items(line: &[u8], s: Scan) -> ItemsScan {
     ItemsScan { scan, items }
 }
 
-fn put_items(s: &[u8], link: LinkInfo) {
-    let mut i: usize = 0;
-    while i < LinkInfo::MOST_ITEMS {
+fn put_items(rt: &impl Print, s: &[u8], link: LinkInfo) -> io::Result<()> {
+    for i in 0..LinkInfo::MOST_ITEMS {
         if i >= link.fields.number_items {
-            return;
+            return Ok(());
         }
         let item = link.items[i];
-        put_item(s, item);
-        i += 1;
+        put_item(rt, s, item)?;
     }
+    Ok(())
 }
 
 #[derive(Drop)]
@@ -197,8 +198,9 @@ pub fn read_link(line: &[u8], s: Scan) -> LinkScan {
     LinkScan { scan, link }
 }
 
-fn put_head(fields: LinkFields) {
+fn put_head(rt: &impl Print, fields: LinkFields) -> io::Result<()> {
     put(
+        rt,
         &HEAD,
         &[
             fields.reserved_link_info_length,
@@ -209,35 +211,36 @@ fn put_head(fields: LinkFields) {
             fields.group_id,
             fields.precedence,
         ],
-    );
+    )
 }
 
 // What stands before the items of a link of the bytes `s`.
-pub fn put_before_items(s: &[u8], fields: LinkFields) {
+pub fn put_before_items(rt: &impl Print, s: &[u8], fields: LinkFields) -> io::Result<()> {
     let uri = fields.media_uri;
     let locator = fields.dvb_binary_locator;
-    put_head(fields);
-    put_uri(s, uri);
-    say(LOC);
-    put_link_locator(locator);
-    put_short(ITEMS, [fields.reserved_number_items, 0, 0, 0]);
-    put_number(fields.number_items);
+    put_head(rt, fields)?;
+    put_uri(rt, s, uri)?;
+    say(rt, LOC)?;
+    put_link_locator(rt, locator)?;
+    put_short(rt, ITEMS, [fields.reserved_number_items, 0, 0, 0])?;
+    put_number(rt, fields.number_items)
 }
 
 // What stands behind them.
-pub fn put_behind_items(s: &[u8], fields: LinkFields) {
+pub fn put_behind_items(rt: &impl Print, s: &[u8], fields: LinkFields) -> io::Result<()> {
     let descriptors = fields.descriptors;
     put_short(
+        rt,
         TAIL,
         [fields.default_icon_flag as u16, fields.icon_id, 0, 0],
-    );
-    put_range(s, descriptors);
+    )?;
+    put_range(rt, s, descriptors)
 }
 
 // A link of the bytes `s`.
-pub fn put_link(s: &[u8], link: LinkInfo) {
+pub fn put_link(rt: &impl Print, s: &[u8], link: LinkInfo) -> io::Result<()> {
     let fields = link.fields;
-    put_before_items(s, fields);
-    put_items(s, link);
-    put_behind_items(s, fields);
+    put_before_items(rt, s, fields)?;
+    put_items(rt, s, link)?;
+    put_behind_items(rt, s, fields)
 }

@@ -4,6 +4,7 @@ use console::print::{put_short, say};
 use locator::{DvbBinaryLocator, DvbLocatorIdentifier, DvbLocatorService, DvbLocatorWindows};
 use script::read::{Numbers, read_short};
 use script::scan::Scan;
+use std::io;
 
 // The identifier's type, the flag of the time's reliability, the reserved bit and the date.
 const HEAD: Short = *b"~,?,#,#,________________";
@@ -62,17 +63,18 @@ fn service_of(is_short: bool, n: Numbers) -> DvbLocatorService {
     }
 }
 
-fn put_service(service: DvbLocatorService) {
+fn put_service(rt: &impl Print, service: DvbLocatorService) -> io::Result<()> {
     match service {
         DvbLocatorService::Triplet {
             dvb_service_triplet_id,
-        } => put_short(TRIPLET, [dvb_service_triplet_id, 0, 0, 0]),
+        } => put_short(rt, TRIPLET, [dvb_service_triplet_id, 0, 0, 0]),
         DvbLocatorService::Full {
             reserved_inline_service,
             transport_stream_id,
             original_network_id,
             service_id,
         } => put_short(
+            rt,
             FULL,
             [
                 reserved_inline_service,
@@ -143,13 +145,13 @@ fn windows_of(are_absent: bool, n: Numbers) -> DvbLocatorWindows {
     }
 }
 
-fn put_windows(windows: DvbLocatorWindows) {
+fn put_windows(rt: &impl Print, windows: DvbLocatorWindows) -> io::Result<()> {
     match windows {
-        DvbLocatorWindows::Absent => say(ABSENT),
+        DvbLocatorWindows::Absent => say(rt, ABSENT),
         DvbLocatorWindows::Present {
             early_start_window,
             late_end_window,
-        } => put_short(WINDOWS, [early_start_window, late_end_window, 0, 0]),
+        } => put_short(rt, WINDOWS, [early_start_window, late_end_window, 0, 0]),
     }
 }
 
@@ -188,19 +190,24 @@ pub fn read_locator(line: &[u8], s: Scan) -> LocatorScan {
     }
 }
 
-pub fn put_locator(locator: DvbBinaryLocator) {
+pub fn put_locator(rt: &impl Print, locator: DvbBinaryLocator) -> io::Result<()> {
     let service = locator.service;
     let identifier = locator.identifier;
     let windows = locator.windows;
     let id = identifier_numbers(identifier);
     let reliability = locator.scheduled_time_reliability as u16;
     put_short(
+        rt,
         HEAD,
         [id.kind, reliability, locator.reserved, locator.start_date],
-    );
-    put_service(service);
-    put_short(TIMES, [locator.start_time, locator.duration, 0, 0]);
-    put_short(identifier_form(id.kind), [id.id, id.component as u16, 0, 0]);
-    say(COMMA);
-    put_windows(windows);
+    )?;
+    put_service(rt, service)?;
+    put_short(rt, TIMES, [locator.start_time, locator.duration, 0, 0])?;
+    put_short(
+        rt,
+        identifier_form(id.kind),
+        [id.id, id.component as u16, 0, 0],
+    )?;
+    say(rt, COMMA)?;
+    put_windows(rt, windows)
 }

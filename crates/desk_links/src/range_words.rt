@@ -5,6 +5,7 @@ use link::Range;
 use script::read::{Numbers, read_short};
 use script::scan::Scan;
 use spans::{Span, handed};
+use std::io;
 
 pub const RANGE: Short = *b"@#+#____________________";
 
@@ -31,15 +32,15 @@ pub fn read_range(line: &[u8], s: Scan) -> RangeScan {
 }
 
 // A range of the bytes `s`.
-pub fn put_range(s: &[u8], range: Range) {
+pub fn put_range(rt: &impl Print, s: &[u8], range: Range) -> io::Result<()> {
     let start = range.start as usize;
     let length = range.length as usize;
-    put_span(s, Span { start, length });
+    put_span(rt, s, Span { start, length })
 }
 
 // The same where a record has it as a span.
-pub fn put_span(s: &[u8], span: Span) {
-    put_hex(handed(s, span));
-    say(START);
-    put_number(span.start);
+pub fn put_span(rt: &impl Print, s: &[u8], span: Span) -> io::Result<()> {
+    put_hex(rt, handed(s, span))?;
+    say(rt, START)?;
+    put_number(rt, span.start)
 }

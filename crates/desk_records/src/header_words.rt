@@ -4,6 +4,7 @@ use console::print::{put, put_number, put_short, say};
 use script::read::{read, read_short};
 use script::scan::Scan;
 use section_header::SectionHeader;
+use std::io;
 
 const TOTAL: Short = *b" total=_________________";
 
@@ -40,8 +41,9 @@ pub fn read_header(line: &[u8], s: Scan, extension: Short) -> HeaderScan {
     HeaderScan { scan, header }
 }
 
-fn put_front(header: SectionHeader) {
+fn put_front(rt: &impl Print, header: SectionHeader) -> io::Result<()> {
     put_short(
+        rt,
         FRONT,
         [
             header.section_syntax_indicator as u16,
@@ -49,11 +51,12 @@ fn put_front(header: SectionHeader) {
             header.reserved_b1,
             0,
         ],
-    );
+    )
 }
 
-fn put_back(header: SectionHeader) {
+fn put_back(rt: &impl Print, header: SectionHeader) -> io::Result<()> {
     put(
+        rt,
         &BACK,
         &[
             header.reserved_b5,
@@ -62,14 +65,19 @@ fn put_back(header: SectionHeader) {
             header.section_number as u16,
             header.last_section_number as u16,
         ],
-    );
+    )
 }
 
 // The header of a section that was read, behind the number of the section's bytes.
-pub fn put_header(total: usize, header: SectionHeader, extension: Short) {
-    say(TOTAL);
-    put_number(total);
-    put_front(header);
-    put_short(extension, [header.table_id_extension, 0, 0, 0]);
-    put_back(header);
+pub fn put_header(
+    rt: &impl Print,
+    total: usize,
+    header: SectionHeader,
+    extension: Short,
+) -> io::Result<()> {
+    say(rt, TOTAL)?;
+    put_number(rt, total)?;
+    put_front(rt, header)?;
+    put_short(rt, extension, [header.table_id_extension, 0, 0, 0])?;
+    put_back(rt, header)
 }

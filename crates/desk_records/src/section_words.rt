@@ -8,6 +8,7 @@ use rct::RctHeader;
 use script::form::Part;
 use script::read::read_short;
 use script::scan::Scan;
+use std::io;
 
 const NAME: Short = *b" rct____________________";
 
@@ -50,18 +51,19 @@ pub fn read_section(line: &[u8], s: Scan) -> SectionScan {
 
 // A section of the bytes `s`, its header, loop and number of links.
 pub fn put_section(
+    rt: &impl Print,
     s: &[u8],
     total: usize,
     header: RctHeader,
     reserved: u16,
     descriptors: Range,
     links: usize,
-) {
+) -> io::Result<()> {
     let section = header.section;
-    say(NAME);
-    put_header(total, section, SERVICE);
-    put_short(FIELDS, [header.year_offset, reserved, 0, 0]);
-    put_range(s, descriptors);
-    say(LINKS);
-    put_number(links);
+    say(rt, NAME)?;
+    put_header(rt, total, section, SERVICE)?;
+    put_short(rt, FIELDS, [header.year_offset, reserved, 0, 0])?;
+    put_range(rt, s, descriptors)?;
+    say(rt, LINKS)?;
+    put_number(rt, links)
 }

@@ -14,6 +14,7 @@ use rnt_reader::{RntRead, RntSection};
 use script::calls::{NUMBER, NUMBERS, OK, call_of, is_understood};
 use script::read::read_short;
 use script::scan::Scan;
+use std::io;
 use words::{put_authority, put_provider, put_section};
 
 const CALLS: [Short; 4] = [
@@ -24,132 +25,150 @@ const CALLS: [Short; 4] = [
 ];
 
 // The authority at a place of a provider that ends at `end`. The answer: the place behind it.
-fn put_authority_at(s: &[u8], end: u16, at: u16) -> u16 {
+fn put_authority_at(rt: &impl Print, s: &[u8], end: u16, at: u16) -> io::Result<u16> {
     let found = rnt_entries::read_authority(s, end, at);
     match found {
         AuthorityFound::Got { authority, next } => {
-            put_authority(s, authority);
-            next
+            put_authority(rt, s, authority)?;
+            Ok(next)
         }
-        AuthorityFound::Refused(_) => end,
+        AuthorityFound::Refused(_) => Ok(end),
     }
 }
 
 // One walk: each authority that is read says where the next one starts.
-fn put_authorities(s: &[u8], count: usize, end: u16, first: u16) {
+fn put_authorities(
+    rt: &impl Print,
+    s: &[u8],
+    count: usize,
+    end: u16,
+    first: u16,
+) -> io::Result<()> {
     let mut at = first;
-    let mut number: usize = 0;
-    while number < count {
-        at = put_authority_at(s, end, at);
-        number += 1;
+    for _ in 0..count {
+        at = put_authority_at(rt, s, end, at)?;
     }
+    Ok(())
 }
 
-fn put_whole_provider(s: &[u8], provider: ResolutionProvider, count: usize) {
-    put_provider(s, provider, count);
-    put_authorities(s, count, provider.end, provider.authorities_at);
+fn put_whole_provider(
+    rt: &impl Print,
+    s: &[u8],
+    provider: ResolutionProvider,
+    count: usize,
+) -> io::Result<()> {
+    put_provider(rt, s, provider, count)?;
+    put_authorities(rt, s, count, provider.end, provider.authorities_at)
 }
 
 // The provider at a place of a payload that ends at `end`. The answer: the place behind it.
-fn put_provider_at(s: &[u8], end: u16, at: u16) -> u16 {
+fn put_provider_at(rt: &impl Print, s: &[u8], end: u16, at: u16) -> io::Result<u16> {
     let found = rnt_entries::read_provider(s, end, at);
     match found {
         ProviderFound::Got(provider) => {
             let count = count_authorities(s, provider.end, provider.authorities_at);
-            put_whole_provider(s, provider, count);
-            provider.end
+            put_whole_provider(rt, s, provider, count)?;
+            Ok(provider.end)
         }
-        ProviderFound::Refused(_) => end,
+        ProviderFound::Refused(_) => Ok(end),
     }
 }
 
 // So each provider does.
-fn put_providers(s: &[u8], count: usize, end: u16, first: u16) {
+fn put_providers(rt: &impl Print, s: &[u8], count: usize, end: u16, first: u16) -> io::Result<()> {
     let mut at = first;
-    let mut number: usize = 0;
-    while number < count {
-        at = put_provider_at(s, end, at);
-        number += 1;
+    for _ in 0..count {
+        at = put_provider_at(rt, s, end, at)?;
     }
+    Ok(())
 }
 
-fn put_whole(s: &[u8], section: RntSection) {
+fn put_whole(rt: &impl Print, s: &[u8], section: RntSection) -> io::Result<()> {
     let places = places_of(section);
-    say(OK);
-    put_section(s, section);
-    put_providers(s, section.number_of_providers, places.end, places.first);
+    say(rt, OK)?;
+    put_section(rt, s, section)?;
+    put_providers(rt, s, section.number_of_providers, places.end, places.first)
 }
 
-fn put_read(s: &[u8], r: RntRead) {
+fn put_read(rt: &impl Print, s: &[u8], r: RntRead) -> io::Result<()> {
     match r {
-        RntRead::Got(section) => put_whole(s, section),
-        RntRead::Refused(refusal) => put_refusal(refusal),
+        RntRead::Got(section) => put_whole(rt, s, section),
+        RntRead::Refused(refusal) => put_refusal(rt, refusal),
     }
 }
 
-fn plain(line: &[u8], scan: Scan, s: &[u8]) {
-    if is_understood(line, scan) {
-        put_read(s, rnt_reader::read_section(s));
+fn plain(rt: &impl Print, line: &[u8], scan: Scan, s: &[u8]) -> io::Result<()> {
+    if is_understood(rt, line, scan)? {
+        put_read(rt, s, rnt_reader::read_section(s))?;
     }
+    Ok(())
 }
 
-fn checked(line: &[u8], scan: Scan, s: &[u8]) {
-    if is_understood(line, scan) {
-        put_read(s, rnt_reader::check_section(s));
+fn checked(rt: &impl Print, line: &[u8], scan: Scan, s: &[u8]) -> io::Result<()> {
+    if is_understood(rt, line, scan)? {
+        put_read(rt, s, rnt_reader::check_section(s))?;
     }
+    Ok(())
 }
 
-fn put_provider_read(s: &[u8], r: ProviderRead) {
+fn put_provider_read(rt: &impl Print, s: &[u8], r: ProviderRead) -> io::Result<()> {
     match r {
         ProviderRead::Got {
             provider,
             number_of_authorities,
         } => {
-            say(OK);
-            put_whole_provider(s, provider, number_of_authorities);
+            say(rt, OK)?;
+            put_whole_provider(rt, s, provider, number_of_authorities)
         }
-        ProviderRead::Refused(refusal) => put_refusal(refusal),
+        ProviderRead::Refused(refusal) => put_refusal(rt, refusal),
     }
 }
 
-fn provider(line: &[u8], scan: Scan, s: &[u8]) {
+fn provider(rt: &impl Print, line: &[u8], scan: Scan, s: &[u8]) -> io::Result<()> {
     let read = read_short(line, scan, NUMBER);
-    if is_understood(line, read.scan) {
-        put_provider_read(s, rnt_providers::read_provider(s, read.numbers.0 as usize));
+    if is_understood(rt, line, read.scan)? {
+        put_provider_read(
+            rt,
+            s,
+            rnt_providers::read_provider(s, read.numbers.0 as usize),
+        )?;
     }
+    Ok(())
 }
 
-fn put_authority_read(s: &[u8], r: AuthorityRead) {
+fn put_authority_read(rt: &impl Print, s: &[u8], r: AuthorityRead) -> io::Result<()> {
     match r {
         AuthorityRead::Got(authority) => {
-            say(OK);
-            put_authority(s, authority);
+            say(rt, OK)?;
+            put_authority(rt, s, authority)
         }
-        AuthorityRead::Refused(refusal) => put_refusal(refusal),
+        AuthorityRead::Refused(refusal) => put_refusal(rt, refusal),
     }
 }
 
-fn authority(line: &[u8], scan: Scan, s: &[u8]) {
+fn authority(rt: &impl Print, line: &[u8], scan: Scan, s: &[u8]) -> io::Result<()> {
     let read = read_short(line, scan, NUMBERS);
-    if is_understood(line, read.scan) {
+    if is_understood(rt, line, read.scan)? {
         put_authority_read(
+            rt,
             s,
             rnt_providers::read_authority(s, read.numbers.0 as usize, read.numbers.1 as usize),
-        );
+        )?;
     }
+    Ok(())
 }
 
 // Carries out the call that a line has, if it is one of these. The answer: whether it is.
-pub fn carry_out(line: &[u8], line_number: usize, s: &[u8]) -> bool {
+pub fn carry_out(rt: &impl Print, line: &[u8], line_number: usize, s: &[u8]) -> io::Result<bool> {
     let call = call_of(line, line_number, &CALLS);
     let scan = call.scan;
     let number = call.number;
     match number {
-        1 => plain(line, scan, s),
-        2 => checked(line, scan, s),
-        3 => provider(line, scan, s),
-        4 => authority(line, scan, s),
-        _ => return false,
+        1 => plain(rt, line, scan, s)?,
+        2 => checked(rt, line, scan, s)?,
+        3 => provider(rt, line, scan, s)?,
+        4 => authority(rt, line, scan, s)?,
+        _ => return Ok(false),
     }
-    true
+    Ok(true)
 }

@@ -2,11 +2,12 @@
 #![tactic(auto)]
 
 use console::Short;
+use console::input::read_full;
 use console::print::{end_line, put_number, put_refusal, say};
 use length_field::LengthField;
-use libc::{STDIN_FILENO, STDOUT_FILENO};
 use link::reading::ItemRead;
 use link::{LangCode, LinkInfo, LinkItem};
+use std::io;
 
 // The most bytes that a link body has: the widest link_info_length.
 const MOST: usize = LengthField::LONGEST;
@@ -20,43 +21,43 @@ const START: Short = *b" start _________________";
 const LENGTH: Short = *b" length ________________";
 
 // A language code as it is, whatever its bytes are.
-fn put_language(code: LangCode) {
-    io::write_all(STDOUT_FILENO, &[code.first, code.second, code.third]);
+fn put_language(rt: &impl Print, code: LangCode) -> io::Result<()> {
+    rt.write_all(&[code.first, code.second, code.third])
 }
 
-fn put_item(number: usize, item: LinkItem) {
+fn put_item(rt: &impl Print, number: usize, item: LinkItem) -> io::Result<()> {
     let text = item.promotional_text;
-    say(ITEM);
-    put_number(number);
-    say(LANGUAGE);
-    put_language(item.language_code);
-    say(START);
-    put_number(text.start as usize);
-    say(LENGTH);
-    put_number(text.length as usize);
-    end_line();
+    say(rt, ITEM)?;
+    put_number(rt, number)?;
+    say(rt, LANGUAGE)?;
+    put_language(rt, item.language_code)?;
+    say(rt, START)?;
+    put_number(rt, text.start as usize)?;
+    say(rt, LENGTH)?;
+    put_number(rt, text.length as usize)?;
+    end_line(rt)
 }
 
 // A link has at most `MOST_ITEMS` items, so that one step more is refused.
-fn list(body: &[u8]) {
+fn list(rt: &impl Print, body: &[u8]) -> io::Result<()> {
     let mut place: usize = 0;
     for _ in 0..LinkInfo::MOST_ITEMS + 1 {
         let step = link_items::step_from(body, place);
         let item = step.item;
         match item {
-            ItemRead::Got(i) => put_item(place, i),
+            ItemRead::Got(i) => put_item(rt, place, i)?,
             ItemRead::Refused(r) => {
-                put_refusal(r);
-                end_line();
-                return;
+                put_refusal(rt, r)?;
+                return end_line(rt);
             }
         }
         place = step.next;
     }
+    Ok(())
 }
 
-fn main() {
+fn main(rt: HostRuntime) -> io::Result<()> {
     let mut input = [0u8; MOST];
-    let count = io::read_full(STDIN_FILENO, &mut input);
-    list(&input[..count]);
+    let count = read_full(&mut rt.stdin(), &mut input)?;
+    list(&rt, &input[..count])
 }

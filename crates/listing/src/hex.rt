@@ -1,6 +1,11 @@
 // Input by digits to base 16, with white space anywhere between them.
 use crate::{Program, Taken, messages};
 use console::digits::digit;
+use std::io;
+use std::io::Read;
+
+// The most characters that are read at a time.
+const BLOCK: usize = 4096;
 
 // How far the digits are taken: how many, and how many characters were looked at. The last of these is wrong, or is a digit
 // that there is no room for, or the input is over.
@@ -78,45 +83,46 @@ fn take_block(bytes: &mut [u8], before: Digits, block: &[u8]) -> Digits {
 }
 
 // Reads once.
-fn take_some(bytes: &mut [u8], mut digits: Digits, input: i32) -> Digits {
-    let mut block = io::buffer();
-    let got = libc::read(input, &mut block);
-    let n = io::count(got, &block);
+fn take_some(bytes: &mut [u8], mut digits: Digits, input: &mut impl Read) -> io::Result<Digits> {
+    let mut block = [0u8; BLOCK];
+    let n = input.read(&mut block)?;
     if n == 0 {
         digits.is_over = true;
-        return digits;
+        return Ok(digits);
     }
-    take_block(bytes, digits, &block[..n])
+    Ok(take_block(bytes, digits, &block[..n]))
 }
 
-// A proved loop has to end, and nothing says that an input does: so it counts down from a number that no run uses up.
-fn take_digits(bytes: &mut [u8], input: i32) -> Digits {
+// A proved loop has to end, and nothing says that an input does: so it counts up to a number that no run uses up.
+fn take_digits(bytes: &mut [u8], input: &mut impl Read) -> io::Result<Digits> {
     let mut digits = Digits::none();
-    let mut turns = u64::MAX;
-    while turns > 0 {
-        digits = take_some(bytes, digits, input);
+    for _ in 0..u64::MAX {
+        digits = take_some(bytes, digits, input)?;
         if digits.is_ended() {
-            return digits;
+            return Ok(digits);
         }
-        turns -= 1;
     }
-    digits
+    Ok(digits)
 }
 
 // The bytes that the digits say, into a buffer of zeros.
-pub(crate) fn take_hex(program: Program, input: i32, bytes: &mut [u8]) -> Taken {
-    let digits = take_digits(bytes, input);
+pub(crate) fn take_hex(
+    program: &Program<impl Print>,
+    input: &mut impl Read,
+    bytes: &mut [u8],
+) -> io::Result<Taken> {
+    let digits = take_digits(bytes, input)?;
     if digits.is_wrong {
-        messages::tell_character(program, digits.characters);
-        return Taken::Nothing;
+        messages::tell_character(program, digits.characters)?;
+        return Ok(Taken::Nothing);
     }
     if digits.is_more {
-        messages::tell_more(program);
-        return Taken::Bytes(bytes.len());
+        messages::tell_more(program)?;
+        return Ok(Taken::Bytes(bytes.len()));
     }
     if digits.count % 2 == 1 {
-        messages::tell_odd(program);
-        return Taken::Nothing;
+        messages::tell_odd(program)?;
+        return Ok(Taken::Nothing);
     }
-    Taken::Bytes(digits.count / 2)
+    Ok(Taken::Bytes(digits.count / 2))
 }

@@ -4,8 +4,11 @@
 #![tactic(auto)]
 
 use console::Short;
+use console::input::read_full;
 use frame::Table;
 use options::Options;
+use std::io;
+use std::io::Read;
 
 pub mod arguments;
 mod hex;
@@ -16,12 +19,12 @@ pub mod options;
 // The most bytes that a section has.
 pub const MOST: usize = Table::LONGEST_PAYLOAD + Table::CRC_LENGTH;
 
-// A program that lists: its name, the section that it lists, and the open file that its messages go to.
-#[derive(Clone, Copy)]
-pub struct Program {
+// A program that lists: its name, the section that it lists, and what its messages are printed to.
+#[derive(Drop)]
+pub struct Program<M> {
     pub name: Short,
     pub section: Short,
-    pub messages: i32,
+    pub messages: M,
 }
 
 // What is to be listed: so many bytes, or nothing, where help was asked for or something is wrong with words or input.
@@ -31,25 +34,35 @@ pub enum Taken {
     Nothing,
 }
 
-fn take_bytes(program: Program, input: i32, bytes: &mut [u8]) -> Taken {
-    let count = io::read_full(input, bytes);
+fn take_bytes(
+    program: &Program<impl Print>,
+    input: &mut impl Read,
+    bytes: &mut [u8],
+) -> io::Result<Taken> {
+    let count = read_full(input, bytes)?;
     let mut behind = [0u8; 1];
     if count == bytes.len() {
-        if io::read_full(input, &mut behind) > 0 {
-            messages::tell_more(program);
+        if read_full(input, &mut behind)? > 0 {
+            messages::tell_more(program)?;
         }
     }
-    Taken::Bytes(count)
+    Ok(Taken::Bytes(count))
 }
 
-// Reads what is to be listed from an open file, into a buffer of zeros. Where help was asked for it is printed instead.
-pub fn take(program: Program, options: Options, input: i32, bytes: &mut [u8]) -> Taken {
+// Reads what is to be listed into a buffer of zeros. Where help was asked for it is printed instead.
+pub fn take(
+    rt: &impl Print,
+    program: &Program<impl Print>,
+    options: Options,
+    input: &mut impl Read,
+    bytes: &mut [u8],
+) -> io::Result<Taken> {
     if options.is_help {
-        messages::put_help(program);
-        return Taken::Nothing;
+        messages::put_help(rt, program)?;
+        return Ok(Taken::Nothing);
     }
     if !options.is_known {
-        return Taken::Nothing;
+        return Ok(Taken::Nothing);
     }
     if options.is_hex {
         return hex::take_hex(program, input, bytes);

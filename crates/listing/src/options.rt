@@ -1,5 +1,6 @@
 // The options that both listings take.
 use crate::{Program, messages};
+use std::io;
 
 // What was asked for, and whether each word was known.
 #[derive(Clone, Copy)]
@@ -66,9 +67,10 @@ impl Options {
 }
 
 // Says that a word is no option, if it is none.
-pub fn tell_word(program: Program, word: &[u8]) {
+pub fn tell_word(program: &Program<impl Print>, word: &[u8]) -> io::Result<()> {
     let alone = Options::none().with_word(word);
     if !alone.is_known {
-        messages::tell_unknown(program, word);
+        messages::tell_unknown(program, word)?;
     }
+    Ok(())
 }

@@ -9,6 +9,7 @@ use link_names::Numbers;
 use link_names::link_type::{LinkType, NamedType};
 use name_words::{scheme_name, type_name};
 use scheme_names::{HowRelated, NamedScheme};
+use std::io;
 
 // One number more than a scheme can have.
 const END: u16 = Field::HOW_RELATED.widest as u16 + 2;
@@ -33,66 +34,64 @@ const LAST_ASKED: usize = Field::LOOP_LENGTH_RESERVED.rank + 1;
 const NOTHING: Short = *b"none____________________";
 
 // A name, and which number of its class it has.
-fn put_class(name: Short, number: u16, all: Numbers) {
-    say(name);
-    put_short(CLASS, [number, all.first, all.last, 0]);
+fn put_class(rt: &impl Print, name: Short, number: u16, all: Numbers) -> io::Result<()> {
+    say(rt, name)?;
+    put_short(rt, CLASS, [number, all.first, all.last, 0])
 }
 
-fn put_type(named: NamedType) {
+fn put_type(rt: &impl Print, named: NamedType) -> io::Result<()> {
     match named {
-        NamedType::Nothing => say(NOTHING),
-        NamedType::Known(t) => put_class(type_name(t), t.to_number(), t.numbers()),
+        NamedType::Nothing => say(rt, NOTHING),
+        NamedType::Known(t) => put_class(rt, type_name(t), t.to_number(), t.numbers()),
     }
 }
 
-fn put_scheme(named: NamedScheme) {
+fn put_scheme(rt: &impl Print, named: NamedScheme) -> io::Result<()> {
     match named {
-        NamedScheme::Nothing => say(NOTHING),
-        NamedScheme::Known(h) => put_class(scheme_name(h), h.to_number(), h.numbers()),
+        NamedScheme::Nothing => say(rt, NOTHING),
+        NamedScheme::Known(h) => put_class(rt, scheme_name(h), h.to_number(), h.numbers()),
     }
 }
 
-fn put_names(number: u16) {
-    put_short(TYPE, [number, 0, 0, 0]);
-    put_type(LinkType::of_number(number));
-    say(SCHEME);
-    put_scheme(HowRelated::of_number(number));
-    end_line();
+fn put_names(rt: &impl Print, number: u16) -> io::Result<()> {
+    put_short(rt, TYPE, [number, 0, 0, 0])?;
+    put_type(rt, LinkType::of_number(number))?;
+    say(rt, SCHEME)?;
+    put_scheme(rt, HowRelated::of_number(number))?;
+    end_line(rt)
 }
 
-fn list() {
-    let mut number: u16 = 0;
-    while number < END {
-        put_names(number);
-        number += 1;
+fn list(rt: &impl Print) -> io::Result<()> {
+    for number in 0..END {
+        put_names(rt, number)?;
     }
+    Ok(())
 }
 
-fn put_listed(listed: Listed) {
+fn put_listed(rt: &impl Print, listed: Listed) -> io::Result<()> {
     match listed {
-        Listed::Nothing => say(NO_FIELD),
+        Listed::Nothing => say(rt, NO_FIELD),
         Listed::Known(field) => {
-            say(FIELD);
-            put_number(field.rank);
-            say(WIDEST);
-            put_number(field.widest);
+            say(rt, FIELD)?;
+            put_number(rt, field.rank)?;
+            say(rt, WIDEST)?;
+            put_number(rt, field.widest)
         }
     }
 }
 
-fn list_fields() {
-    let mut rank: usize = 0;
-    while rank <= LAST_ASKED {
-        say(RANK);
-        put_number(rank);
-        put_listed(Field::of_rank(rank));
-        end_line();
-        rank += 1;
+fn list_fields(rt: &impl Print) -> io::Result<()> {
+    for rank in 0..=LAST_ASKED {
+        say(rt, RANK)?;
+        put_number(rt, rank)?;
+        put_listed(rt, Field::of_rank(rank))?;
+        end_line(rt)?;
     }
+    Ok(())
 }
 
-fn main() {
-    list();
-    put_names(u16::MAX);
-    list_fields();
+fn main(rt: HostRuntime) -> io::Result<()> {
+    list(&rt)?;
+    put_names(&rt, u16::MAX)?;
+    list_fields(&rt)
 }

@@ -3,10 +3,11 @@
 #![tactic(auto)]
 
 use console::Short;
+use console::input::read_full;
 use console::print::{end_line, put_hex, put_number, say};
-use libc::STDIN_FILENO;
 use listing::options::Options;
 use rct_parts::{link_body, link_descriptors, loop_descriptors, media_uri, promotional_text};
+use std::io;
 
 const LINK: Short = *b"link ___________________";
 
@@ -22,69 +23,66 @@ const DESCRIPTORS: Short = *b" descriptors ___________";
 
 const LOOP: Short = *b"loop ___________________";
 
-fn put_part(name: Short, part: &[u8]) {
-    say(name);
-    put_hex(part);
-    end_line();
+fn put_part(rt: &impl Print, name: Short, part: &[u8]) -> io::Result<()> {
+    say(rt, name)?;
+    put_hex(rt, part)?;
+    end_line(rt)
 }
 
-fn put_link_part(link: usize, name: Short, part: &[u8]) {
-    say(LINK);
-    put_number(link);
-    put_part(name, part);
+fn put_link_part(rt: &impl Print, link: usize, name: Short, part: &[u8]) -> io::Result<()> {
+    say(rt, LINK)?;
+    put_number(rt, link)?;
+    put_part(rt, name, part)
 }
 
-fn put_text(s: &[u8], link: usize, item: usize) {
-    say(LINK);
-    put_number(link);
-    say(ITEM);
-    put_number(item);
-    put_part(TEXT, promotional_text(s, link, item));
+fn put_text(rt: &impl Print, s: &[u8], link: usize, item: usize) -> io::Result<()> {
+    say(rt, LINK)?;
+    put_number(rt, link)?;
+    say(rt, ITEM)?;
+    put_number(rt, item)?;
+    put_part(rt, TEXT, promotional_text(s, link, item))
 }
 
-fn put_texts(s: &[u8], link: usize, count: usize) {
-    let mut item: usize = 0;
-    while item < count {
-        put_text(s, link, item);
-        item += 1;
+fn put_texts(rt: &impl Print, s: &[u8], link: usize, count: usize) -> io::Result<()> {
+    for item in 0..count {
+        put_text(rt, s, link, item)?;
     }
-    put_text(s, link, count);
+    put_text(rt, s, link, count)
 }
 
-fn put_link(s: &[u8], link: usize) {
+fn put_link(rt: &impl Print, s: &[u8], link: usize) -> io::Result<()> {
     let read = rct_links::read_link(s, link);
-    put_link_part(link, BODY, link_body(s, link));
-    put_link_part(link, URI, media_uri(s, link));
-    put_texts(s, link, read.link.fields.number_items);
-    put_link_part(link, DESCRIPTORS, link_descriptors(s, link));
+    put_link_part(rt, link, BODY, link_body(s, link))?;
+    put_link_part(rt, link, URI, media_uri(s, link))?;
+    put_texts(rt, s, link, read.link.fields.number_items)?;
+    put_link_part(rt, link, DESCRIPTORS, link_descriptors(s, link))
 }
 
-fn put_links(s: &[u8], count: usize) {
-    let mut link: usize = 0;
-    while link < count {
-        put_link(s, link);
-        link += 1;
+fn put_links(rt: &impl Print, s: &[u8], count: usize) -> io::Result<()> {
+    for link in 0..count {
+        put_link(rt, s, link)?;
     }
-    put_link(s, count);
+    put_link(rt, s, count)
 }
 
-fn list(s: &[u8]) {
+fn list(rt: &impl Print, s: &[u8]) -> io::Result<()> {
     let read = rct_reader::read_section(s);
-    rct_listing::list(s, Options::none());
-    put_links(s, read.number_of_links);
-    put_part(LOOP, loop_descriptors(s));
+    rct_listing::list(rt, s, Options::none())?;
+    put_links(rt, s, read.number_of_links)?;
+    put_part(rt, LOOP, loop_descriptors(s))
 }
 
-fn list_without_last(s: &[u8]) {
+fn list_without_last(rt: &impl Print, s: &[u8]) -> io::Result<()> {
     if s.len() > 0 {
         let end = s.len() - 1;
-        rct_listing::list(&s[0..end], Options::none());
+        rct_listing::list(rt, &s[0..end], Options::none())?;
     }
+    Ok(())
 }
 
-fn main() {
+fn main(rt: HostRuntime) -> io::Result<()> {
     let mut input = [0u8; listing::MOST];
-    let count = io::read_full(STDIN_FILENO, &mut input);
-    list(&input[..count]);
-    list_without_last(&input[..count]);
+    let count = read_full(&mut rt.stdin(), &mut input)?;
+    list(&rt, &input[..count])?;
+    list_without_last(&rt, &input[..count])
 }

@@ -17,14 +17,16 @@ use rct::RctHeader;
 use rct_entries::EntryRead;
 use rct_reader::RctSection;
 use spans::{Span, handed};
+use std::io;
+use std::io::Read;
 use wire::verdict::Verdict;
 
 const NAME: Short = *b"rctlist_________________";
 
 const TABLE: Short = *b"related content_________";
 
-// The program whose listing this is.
-pub fn program(messages: i32) -> Program {
+// The program whose listing this is, with what its messages are printed to.
+pub fn program<M>(messages: M) -> Program<M> {
     Program {
         name: NAME,
         section: TABLE,
@@ -39,22 +41,29 @@ pub(crate) fn part(payload: &[u8], range: Range) -> &[u8] {
     handed(payload, Span { start, length })
 }
 
-fn put_section(payload: &[u8], r: RctSection, is_all: bool) {
+fn put_section(rt: &impl Print, payload: &[u8], r: RctSection, is_all: bool) -> io::Result<()> {
     let header = r.header;
     let section = header.section;
     let descriptors = r.descriptors;
-    put_header(b"section ", section);
-    put_field(b" year ", header.year_offset as usize);
-    put_field(b" links ", r.number_of_links);
-    put_descriptor_count(descriptors.length as usize);
-    end_line();
+    put_header(rt, b"section ", section)?;
+    put_field(rt, b" year ", header.year_offset as usize)?;
+    put_field(rt, b" links ", r.number_of_links)?;
+    put_descriptor_count(rt, descriptors.length as usize)?;
+    end_line(rt)?;
     if is_all {
-        put_descriptors(part(payload, descriptors));
+        put_descriptors(rt, part(payload, descriptors))?;
     }
+    Ok(())
 }
 
 // The link at a place. The answer: the place behind its entry.
-fn put_link_at(payload: &[u8], number: usize, at: u16, is_all: bool) -> u16 {
+fn put_link_at(
+    rt: &impl Print,
+    payload: &[u8],
+    number: usize,
+    at: u16,
+    is_all: bool,
+) -> io::Result<u16> {
     let entry = rct_entries::read_entry(payload, at);
     match entry {
         EntryRead::Got {
@@ -62,29 +71,28 @@ fn put_link_at(payload: &[u8], number: usize, at: u16, is_all: bool) -> u16 {
             items_at,
             next,
         } => {
-            put_link(number, fields);
+            put_link(rt, number, fields)?;
             if is_all {
-                put_parts(payload, fields, items_at);
+                put_parts(rt, payload, fields, items_at)?;
             }
-            next
+            Ok(next)
         }
-        EntryRead::Refused(_) => at,
+        EntryRead::Refused(_) => Ok(at),
     }
 }
 
 // One walk: each entry that is read says where the next one starts.
-fn put_links(payload: &[u8], count: usize, is_all: bool) {
+fn put_links(rt: &impl Print, payload: &[u8], count: usize, is_all: bool) -> io::Result<()> {
     let mut at = RctHeader::HEAD as u16;
-    let mut number: usize = 0;
-    while number < count {
-        at = put_link_at(payload, number, at, is_all);
-        number += 1;
+    for number in 0..count {
+        at = put_link_at(rt, payload, number, at, is_all)?;
     }
+    Ok(())
 }
 
-fn put_whole(payload: &[u8], r: RctSection, is_all: bool) {
-    put_section(payload, r, is_all);
-    put_links(payload, r.number_of_links, is_all);
+fn put_whole(rt: &impl Print, payload: &[u8], r: RctSection, is_all: bool) -> io::Result<()> {
+    put_section(rt, payload, r, is_all)?;
+    put_links(rt, payload, r.number_of_links, is_all)
 }
 
 fn read(s: &[u8], is_checked: bool) -> RctSection {
@@ -95,24 +103,29 @@ fn read(s: &[u8], is_checked: bool) -> RctSection {
 }
 
 // The section at the start of `s`, as the options ask.
-pub fn list(s: &[u8], options: Options) {
+pub fn list(rt: &impl Print, s: &[u8], options: Options) -> io::Result<()> {
     let r = read(s, options.is_checked);
     let verdict = r.verdict;
     match verdict {
-        Verdict::Refused(refusal) => put_refused(refusal),
+        Verdict::Refused(refusal) => put_refused(rt, refusal),
         Verdict::Fine => {
             let length = frame::payload_end(r.total);
-            put_whole(handed(s, Span { start: 0, length }), r, options.is_all);
+            put_whole(rt, handed(s, Span { start: 0, length }), r, options.is_all)
         }
     }
 }
 
-// The program: it lists what an open file has.
-pub fn run(program: Program, options: Options, input: i32) {
+// The program: it lists what it reads.
+pub fn run(
+    rt: &impl Print,
+    program: &Program<impl Print>,
+    options: Options,
+    input: &mut impl Read,
+) -> io::Result<()> {
     let mut bytes = [0u8; MOST];
-    let taken = listing::take(program, options, input, &mut bytes);
+    let taken = listing::take(rt, program, options, input, &mut bytes)?;
     match taken {
-        Taken::Bytes(length) => list(handed(&bytes, Span { start: 0, length }), options),
-        Taken::Nothing => {}
+        Taken::Bytes(length) => list(rt, handed(&bytes, Span { start: 0, length }), options),
+        Taken::Nothing => Ok(()),
     }
 }

@@ -4,6 +4,7 @@ use console::print::say;
 use script::calls::{SET, call_of, is_understood};
 use script::read::read_short;
 use script::scan::{Scan, behind, byte_at};
+use std::io;
 
 // The most bytes that a buffer or a text has.
 pub const MOST: u16 = 8192;
@@ -95,17 +96,23 @@ impl Lending {
     }
 
     // Lends to `b`, and answers how much of it is lent now.
-    pub fn lend(self, line: &[u8], b: &mut [u8], before: usize) -> usize {
+    pub fn lend(
+        self,
+        rt: &impl Print,
+        line: &[u8],
+        b: &mut [u8],
+        before: usize,
+    ) -> io::Result<usize> {
         let scan = self.scan;
-        if !is_understood(line, scan) {
-            return before;
+        if !is_understood(rt, line, scan)? {
+            return Ok(before);
         }
-        say(SET);
+        say(rt, SET)?;
         let count = scan.value as usize;
         if count <= b.len() {
             self.store(line, &mut b[0..count]);
         }
-        count
+        Ok(count)
     }
 
     fn store(self, line: &[u8], b: &mut [u8]) {

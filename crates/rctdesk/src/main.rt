@@ -12,9 +12,14 @@ use line::{says_nothing, without_return};
 use rct_index::RctIndex;
 use script::calls::put_error;
 use spans::{Span, handed};
+use std::io;
+use std::io::Read;
 
 // The most characters that a line has, besides the two that may end it.
 const LONGEST: usize = 32768;
+
+// The most characters that are read at a time.
+const BLOCK: usize = 65536;
 
 // What is wrong with a line.
 const UNKNOWN: Short = *b" unknown call___________";
@@ -49,92 +54,127 @@ impl Desk {
 
 // The groups of calls, each of which says whether the call was its own: a new group is asked here. The answer: the index
 // that is kept from here on.
-fn dispatch(line: &[u8], b: &mut [u8], text: &[u8], desk: Desk) -> RctIndex {
+fn dispatch(
+    rt: &impl Print,
+    line: &[u8],
+    b: &mut [u8],
+    text: &[u8],
+    desk: Desk,
+) -> io::Result<RctIndex> {
     let index = desk.index;
     let number = desk.line_number;
-    if desk_reads::carry_out(line, number, &b[..]) {
-        return index;
+    if desk_reads::carry_out(rt, line, number, &b[..])? {
+        return Ok(index);
     }
-    if desk_rnt::carry_out(line, number, &b[..]) {
-        return index;
+    if desk_rnt::carry_out(rt, line, number, &b[..])? {
+        return Ok(index);
     }
-    if desk_edits::carry_out(line, number, b, text) {
-        return index;
+    if desk_edits::carry_out(rt, line, number, b, text)? {
+        return Ok(index);
     }
-    let kept = desk_index::carry_out(line, number, b, text, index);
+    let kept = desk_index::carry_out(rt, line, number, b, text, index)?;
     if !kept.is_mine {
-        put_error(number);
-        say(UNKNOWN);
+        put_error(rt, number)?;
+        say(rt, UNKNOWN)?;
     }
-    kept.index
+    Ok(kept.index)
 }
 
 // A call on what is lent, of which there is never more than the arrays hold.
-fn on_lent(line: &[u8], buf: &mut [u8], text: &[u8], desk: Desk) -> RctIndex {
+fn on_lent(
+    rt: &impl Print,
+    line: &[u8],
+    buf: &mut [u8],
+    text: &[u8],
+    desk: Desk,
+) -> io::Result<RctIndex> {
     let b = desk.buf;
     let t = desk.text;
     if b <= buf.len() {
         if t <= text.len() {
-            return dispatch(line, &mut buf[0..b], &text[0..t], desk);
+            return dispatch(rt, line, &mut buf[0..b], &text[0..t], desk);
         }
     }
-    desk.index
+    Ok(desk.index)
 }
 
 // Carries out the call that a line has, and answers it.
-fn answer(line: &[u8], buf: &mut [u8], text: &mut [u8], mut desk: Desk) -> Desk {
+fn answer(
+    rt: &impl Print,
+    line: &[u8],
+    buf: &mut [u8],
+    text: &mut [u8],
+    mut desk: Desk,
+) -> io::Result<Desk> {
     let lending = read_lending(line, desk.line_number);
     let into = lending.into;
     match into {
-        lend::BUF => desk.buf = lending.lend(line, buf, desk.buf),
-        lend::TEXT => desk.text = lending.lend(line, text, desk.text),
+        lend::BUF => desk.buf = lending.lend(rt, line, buf, desk.buf)?,
+        lend::TEXT => desk.text = lending.lend(rt, line, text, desk.text)?,
         _ => {
-            let index = on_lent(line, buf, &text[..], desk);
+            let index = on_lent(rt, line, buf, &text[..], desk)?;
             desk.index = index;
         }
     }
-    desk
+    Ok(desk)
 }
 
 // A line of which so many characters count: one that says nothing has no answer.
-fn take(line: &[u8], length: usize, buf: &mut [u8], text: &mut [u8], desk: Desk) -> Desk {
+fn take(
+    rt: &impl Print,
+    line: &[u8],
+    length: usize,
+    buf: &mut [u8],
+    text: &mut [u8],
+    desk: Desk,
+) -> io::Result<Desk> {
     if length > LONGEST {
-        put_error(desk.line_number);
-        say(TOO_LONG);
-        end_line();
-        return desk;
+        put_error(rt, desk.line_number)?;
+        say(rt, TOO_LONG)?;
+        end_line(rt)?;
+        return Ok(desk);
     }
     let line = handed(line, Span { start: 0, length });
     if says_nothing(line) {
-        return desk;
+        return Ok(desk);
     }
-    let desk = answer(line, buf, text, desk);
-    end_line();
-    desk
+    let desk = answer(rt, line, buf, text, desk)?;
+    end_line(rt)?;
+    Ok(desk)
 }
 
-// A proved loop has to end, and nothing says that a script does: so it counts down from a number that no run uses up.
-fn run(block: &mut [u8], line: &mut [u8], buf: &mut [u8], text: &mut [u8], start: Desk) {
+// A proved loop has to end, and nothing says that a script does: so it counts up to a number that no run uses up.
+fn run(
+    rt: &impl Print,
+    input: &mut impl Read,
+    block: &mut [u8],
+    line: &mut [u8],
+    buf: &mut [u8],
+    text: &mut [u8],
+    start: Desk,
+) -> io::Result<()> {
     let mut desk = start;
     let mut unread = Unread::nothing();
-    let mut turns = u64::MAX;
-    while turns > 0 {
-        let read = read_line(block, line, unread);
+    for _ in 0..u64::MAX {
+        let read = read_line(input, block, line, unread)?;
         if read.is_over {
-            return;
+            return Ok(());
         }
         let length = without_return(&line[..], read.kept);
-        desk = take(&line[..], length, buf, text, desk.at_next_line());
+        desk = take(rt, &line[..], length, buf, text, desk.at_next_line())?;
         unread = read.unread;
-        turns -= 1;
     }
+    Ok(())
 }
 
-fn main() {
-    let mut block = io::large_buffer();
+fn main(rt: HostRuntime) -> io::Result<()> {
+    let mut block = [0u8; BLOCK];
     let mut line = [0u8; LONGEST + 1];
     let mut buf = [0u8; MOST as usize];
     let mut text = [0u8; MOST as usize];
+    let mut input = rt.stdin();
     let start = Desk::start();
-    run(&mut block, &mut line, &mut buf, &mut text, start);
+    run(
+        &rt, &mut input, &mut block, &mut line, &mut buf, &mut text, start,
+    )
 }

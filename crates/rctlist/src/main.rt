@@ -1,10 +1,10 @@
 // Lists the related content section on standard input, as its arguments ask.
 #![tactic(auto)]
 
-use libc::{STDERR_FILENO, STDIN_FILENO};
+use std::io;
 
-fn main() {
-    let program = rct_listing::program(STDERR_FILENO);
-    let options = listing::arguments::options(program);
-    rct_listing::run(program, options, STDIN_FILENO);
+fn main(rt: HostRuntime) -> io::Result<()> {
+    let program = rct_listing::program(rt.stderr());
+    let options = listing::arguments::options(&rt, &program)?;
+    rct_listing::run(&rt, &program, options, &mut rt.stdin())
 }

@@ -6,13 +6,18 @@ mod rows;
 mod table;
 
 use console::Short;
+use console::input::read_full;
 use console::print::{end_line, put_number, say};
 use field::{Field, Listed};
-use libc::STDOUT_FILENO;
 use rows::{FIELD_COUNT, FIELD_NAMES, NUMBER_COUNT, NUMBER_NAMES, field_at, name_at, number_at};
+use std::fs::File;
+use std::io;
 use table::{Seen, front, next_row, past_cell, past_number};
 
-const PAGE: [u8; 11] = *b"REFUSALS.md";
+const PAGE: &str = "REFUSALS.md";
+
+// The most bytes of the page that are read.
+const LONGEST: usize = 65536;
 
 const NUMBERS_SAID: Short = *b" numbers and ___________";
 
@@ -24,25 +29,25 @@ const MORE: Short = *b"more rows than the code_";
 
 const SPACE: Short = *b" _______________________";
 
-fn put_other(number: usize, name: &[u8]) {
-    say(OTHER);
-    put_number(number);
-    say(SPACE);
-    io::write_all(STDOUT_FILENO, name);
-    end_line();
+fn put_other(rt: &impl Print, number: usize, name: &[u8]) -> io::Result<()> {
+    say(rt, OTHER)?;
+    put_number(rt, number)?;
+    say(rt, SPACE)?;
+    rt.write_all(name)?;
+    end_line(rt)
 }
 
 // The row at a place has the number and the name of the code's row. The names are looked up here and not in the loop over the
 // rows, where each step of its proof would go through all of them.
-fn number_row(page: &[u8], at: usize, i: usize) -> Seen {
+fn number_row(rt: &impl Print, page: &[u8], at: usize, i: usize) -> io::Result<Seen> {
     let names = NUMBER_NAMES;
     let name = name_at(&names, i);
     let number = wire::wide(number_at(i));
     let seen = past_cell(page, past_number(page, front(page, at), number), name);
     if !seen.is_same {
-        put_other(number, name);
+        put_other(rt, number, name)?;
     }
-    seen
+    Ok(seen)
 }
 
 // The field's place is its rank, of which the code answers the field.
@@ -54,7 +59,7 @@ fn is_listed(field: Field) -> bool {
     }
 }
 
-fn field_row(page: &[u8], at: usize, i: usize) -> Seen {
+fn field_row(rt: &impl Print, page: &[u8], at: usize, i: usize) -> io::Result<Seen> {
     let names = FIELD_NAMES;
     let name = name_at(&names, i);
     let field = field_at(i);
@@ -62,72 +67,62 @@ fn field_row(page: &[u8], at: usize, i: usize) -> Seen {
     let seen = past_number(page, seen, field.widest);
     let is_same = seen.is_same & is_listed(field);
     if !is_same {
-        put_other(field.rank, name);
+        put_other(rt, field.rank, name)?;
     }
-    Seen {
+    Ok(Seen {
         at: seen.at,
         is_same,
-    }
+    })
 }
 
 // The numbers' rows. The answer: the place behind them, and whether all are as in the code.
-fn number_rows(page: &[u8]) -> Seen {
+fn number_rows(rt: &impl Print, page: &[u8]) -> io::Result<Seen> {
     let mut seen = Seen {
         at: 0,
         is_same: true,
     };
-    let mut i: usize = 0;
-    while i < NUMBER_COUNT {
-        seen = number_row(page, next_row(page, seen.at), i);
+    for i in 0..NUMBER_COUNT {
+        seen = number_row(rt, page, next_row(page, seen.at), i)?;
         if !seen.is_same {
-            return seen;
+            return Ok(seen);
         }
-        i += 1;
     }
-    seen
+    Ok(seen)
 }
 
-fn field_rows(page: &[u8], from: Seen) -> Seen {
+fn field_rows(rt: &impl Print, page: &[u8], from: Seen) -> io::Result<Seen> {
     let mut seen = from;
-    let mut i: usize = 0;
-    while i < FIELD_COUNT {
-        seen = field_row(page, next_row(page, seen.at), i);
+    for i in 0..FIELD_COUNT {
+        seen = field_row(rt, page, next_row(page, seen.at), i)?;
         if !seen.is_same {
-            return seen;
+            return Ok(seen);
         }
-        i += 1;
     }
-    seen
+    Ok(seen)
 }
 
-fn compare(page: &[u8]) {
-    let seen = number_rows(page);
+fn compare(rt: &impl Print, page: &[u8]) -> io::Result<()> {
+    let seen = number_rows(rt, page)?;
     if !seen.is_same {
-        return;
+        return Ok(());
     }
-    let seen = field_rows(page, seen);
+    let seen = field_rows(rt, page, seen)?;
     if !seen.is_same {
-        return;
+        return Ok(());
     }
     if next_row(page, seen.at) < page.len() {
-        say(MORE);
-        return;
+        return say(rt, MORE);
     }
-    put_number(NUMBER_COUNT);
-    say(NUMBERS_SAID);
-    put_number(FIELD_COUNT);
-    say(PLACES_SAID);
-    end_line();
+    put_number(rt, NUMBER_COUNT)?;
+    say(rt, NUMBERS_SAID)?;
+    put_number(rt, FIELD_COUNT)?;
+    say(rt, PLACES_SAID)?;
+    end_line(rt)
 }
 
-fn main() {
-    let fd = os::open_read(&PAGE);
-    if fd < 0 {
-        os::fail(&PAGE);
-        return;
-    }
-    let mut page = io::large_buffer();
-    let count = io::read_full(fd, &mut page);
-    compare(&page[..count]);
-    libc::close(fd);
+fn main(rt: HostRuntime) -> io::Result<()> {
+    let mut file = File::open(&rt, PAGE)?;
+    let mut page = [0u8; LONGEST];
+    let count = read_full(&mut file, &mut page)?;
+    compare(&rt, &page[..count])
 }

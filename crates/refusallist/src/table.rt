@@ -1,8 +1,6 @@
 // Finding the rows of the page's tables, and going over what a row has.
+use console::digits::{Digits, MOST_DIGITS, decimal};
 use console::lines::char_at;
-
-// The characters of a number's digits.
-type Digits = [u8; 20];
 
 // What a row begins with, and what stands between two of its cells.
 const FRONT: [u8; 2] = *b"| ";
@@ -90,7 +88,7 @@ fn past_front(page: &[u8], from: Seen, digits: &[u8], length: usize) -> Seen {
 }
 
 fn spell(digits: &mut Digits, number: usize) -> usize {
-    io::decimal(number as u64, digits)
+    decimal(number, digits)
 }
 
 // Past a cell with the first so many of these digits.
@@ -99,7 +97,7 @@ fn past_digits(page: &[u8], from: Seen, digits: &Digits, length: usize) -> Seen 
 }
 
 pub fn past_number(page: &[u8], from: Seen, number: usize) -> Seen {
-    let mut digits: Digits = [0; 20];
+    let mut digits: Digits = [0; MOST_DIGITS];
     let length = spell(&mut digits, number);
     past_digits(page, from, &digits, length)
 }

@@ -18,13 +18,15 @@ use rnt_counts::{count_authorities, places_of};
 use rnt_entries::{AuthorityFound, ProviderFound};
 use rnt_reader::{RntRead, RntSection};
 use spans::{Span, handed};
+use std::io;
+use std::io::Read;
 
 const NAME: Short = *b"rntlist_________________";
 
 const TABLE: Short = *b"resolution notification_";
 
-// The program whose listing this is.
-pub fn program(messages: i32) -> Program {
+// The program whose listing this is, with what its messages are printed to.
+pub fn program<M>(messages: M) -> Program<M> {
     Program {
         name: NAME,
         section: TABLE,
@@ -32,102 +34,143 @@ pub fn program(messages: i32) -> Program {
     }
 }
 
-fn put_section(s: &[u8], section: RntSection, is_all: bool) {
+fn put_section(rt: &impl Print, s: &[u8], section: RntSection, is_all: bool) -> io::Result<()> {
     let header = section.header;
     let front = header.section;
     let common = section.common_descriptors;
-    put_header(b"notification ", front);
-    put_field(b" context_type ", wire::wide(header.context_id_type));
-    put_field(b" providers ", section.number_of_providers);
-    put_descriptor_count(common.length);
-    end_line();
+    put_header(rt, b"notification ", front)?;
+    put_field(rt, b" context_type ", wire::wide(header.context_id_type))?;
+    put_field(rt, b" providers ", section.number_of_providers)?;
+    put_descriptor_count(rt, common.length)?;
+    end_line(rt)?;
     if is_all {
-        put_context_name(header.context_id_type);
-        put_descriptors(handed(s, common));
+        put_context_name(rt, header.context_id_type)?;
+        put_descriptors(rt, handed(s, common))?;
     }
+    Ok(())
 }
 
-fn put_authority(s: &[u8], number: usize, authority: CridAuthority, is_all: bool) {
+fn put_authority(
+    rt: &impl Print,
+    s: &[u8],
+    number: usize,
+    authority: CridAuthority,
+    is_all: bool,
+) -> io::Result<()> {
     let name = authority.name;
     let descriptors = authority.descriptors;
-    put_field(b"authority ", number);
-    put_field(b" policy ", authority.crid_authority_policy as usize);
-    put_descriptor_count(descriptors.length);
-    put_last(b" name ", handed(s, name));
+    put_field(rt, b"authority ", number)?;
+    put_field(rt, b" policy ", authority.crid_authority_policy as usize)?;
+    put_descriptor_count(rt, descriptors.length)?;
+    put_last(rt, b" name ", handed(s, name))?;
     if is_all {
-        put_policy_name(authority.crid_authority_policy);
-        put_descriptors(handed(s, descriptors));
+        put_policy_name(rt, authority.crid_authority_policy)?;
+        put_descriptors(rt, handed(s, descriptors))?;
     }
+    Ok(())
 }
 
 // The authority at a place of a provider that ends at `end`. The answer: the place behind it.
-fn put_authority_at(s: &[u8], number: usize, end: u16, at: u16, is_all: bool) -> u16 {
+fn put_authority_at(
+    rt: &impl Print,
+    s: &[u8],
+    number: usize,
+    end: u16,
+    at: u16,
+    is_all: bool,
+) -> io::Result<u16> {
     let found = rnt_entries::read_authority(s, end, at);
     match found {
         AuthorityFound::Got { authority, next } => {
-            put_authority(s, number, authority, is_all);
-            next
+            put_authority(rt, s, number, authority, is_all)?;
+            Ok(next)
         }
-        AuthorityFound::Refused(_) => end,
+        AuthorityFound::Refused(_) => Ok(end),
     }
 }
 
 // One walk: each authority that is read says where the next one starts.
-fn put_authorities(s: &[u8], count: usize, end: u16, first: u16, is_all: bool) {
+fn put_authorities(
+    rt: &impl Print,
+    s: &[u8],
+    count: usize,
+    end: u16,
+    first: u16,
+    is_all: bool,
+) -> io::Result<()> {
     let mut at = first;
-    let mut number: usize = 0;
-    while number < count {
-        at = put_authority_at(s, number, end, at, is_all);
-        number += 1;
+    for number in 0..count {
+        at = put_authority_at(rt, s, number, end, at, is_all)?;
     }
+    Ok(())
 }
 
-fn put_provider(s: &[u8], number: usize, provider: ResolutionProvider, is_all: bool) {
+fn put_provider(
+    rt: &impl Print,
+    s: &[u8],
+    number: usize,
+    provider: ResolutionProvider,
+    is_all: bool,
+) -> io::Result<()> {
     let name = provider.name;
     let descriptors = provider.descriptors;
     let count = count_authorities(s, provider.end, provider.authorities_at);
-    put_field(b"provider ", number);
-    put_field(b" authorities ", count);
-    put_descriptor_count(descriptors.length);
-    put_last(b" name ", handed(s, name));
+    put_field(rt, b"provider ", number)?;
+    put_field(rt, b" authorities ", count)?;
+    put_descriptor_count(rt, descriptors.length)?;
+    put_last(rt, b" name ", handed(s, name))?;
     if is_all {
-        put_descriptors(handed(s, descriptors));
+        put_descriptors(rt, handed(s, descriptors))?;
     }
-    put_authorities(s, count, provider.end, provider.authorities_at, is_all);
+    put_authorities(rt, s, count, provider.end, provider.authorities_at, is_all)
 }
 
 // The provider at a place of a payload that ends at `end`. The answer: the place behind it.
-fn put_provider_at(s: &[u8], number: usize, end: u16, at: u16, is_all: bool) -> u16 {
+fn put_provider_at(
+    rt: &impl Print,
+    s: &[u8],
+    number: usize,
+    end: u16,
+    at: u16,
+    is_all: bool,
+) -> io::Result<u16> {
     let found = rnt_entries::read_provider(s, end, at);
     match found {
         ProviderFound::Got(provider) => {
-            put_provider(s, number, provider, is_all);
-            provider.end
+            put_provider(rt, s, number, provider, is_all)?;
+            Ok(provider.end)
         }
-        ProviderFound::Refused(_) => end,
+        ProviderFound::Refused(_) => Ok(end),
     }
 }
 
 // So each provider does.
-fn put_providers(s: &[u8], count: usize, end: u16, first: u16, is_all: bool) {
+fn put_providers(
+    rt: &impl Print,
+    s: &[u8],
+    count: usize,
+    end: u16,
+    first: u16,
+    is_all: bool,
+) -> io::Result<()> {
     let mut at = first;
-    let mut number: usize = 0;
-    while number < count {
-        at = put_provider_at(s, number, end, at, is_all);
-        number += 1;
+    for number in 0..count {
+        at = put_provider_at(rt, s, number, end, at, is_all)?;
     }
+    Ok(())
 }
 
-fn put_whole(s: &[u8], section: RntSection, is_all: bool) {
+fn put_whole(rt: &impl Print, s: &[u8], section: RntSection, is_all: bool) -> io::Result<()> {
     let places = places_of(section);
-    put_section(s, section, is_all);
+    put_section(rt, s, section, is_all)?;
     put_providers(
+        rt,
         s,
         section.number_of_providers,
         places.end,
         places.first,
         is_all,
-    );
+    )
 }
 
 fn read(s: &[u8], is_checked: bool) -> RntRead {
@@ -138,20 +181,25 @@ fn read(s: &[u8], is_checked: bool) -> RntRead {
 }
 
 // The section at the start of `s`, as the options ask.
-pub fn list(s: &[u8], options: Options) {
+pub fn list(rt: &impl Print, s: &[u8], options: Options) -> io::Result<()> {
     let r = read(s, options.is_checked);
     match r {
-        RntRead::Refused(refusal) => put_refused(refusal),
-        RntRead::Got(section) => put_whole(s, section, options.is_all),
+        RntRead::Refused(refusal) => put_refused(rt, refusal),
+        RntRead::Got(section) => put_whole(rt, s, section, options.is_all),
     }
 }
 
-// The program: it lists what an open file has.
-pub fn run(program: Program, options: Options, input: i32) {
+// The program: it lists what it reads.
+pub fn run(
+    rt: &impl Print,
+    program: &Program<impl Print>,
+    options: Options,
+    input: &mut impl Read,
+) -> io::Result<()> {
     let mut bytes = [0u8; MOST];
-    let taken = listing::take(program, options, input, &mut bytes);
+    let taken = listing::take(rt, program, options, input, &mut bytes)?;
     match taken {
-        Taken::Bytes(length) => list(handed(&bytes, Span { start: 0, length }), options),
-        Taken::Nothing => {}
+        Taken::Bytes(length) => list(rt, handed(&bytes, Span { start: 0, length }), options),
+        Taken::Nothing => Ok(()),
     }
 }

@@ -1,10 +1,10 @@
 // Lists the resolution notification section on standard input, as its arguments ask.
 #![tactic(auto)]
 
-use libc::{STDERR_FILENO, STDIN_FILENO};
+use std::io;
 
-fn main() {
-    let program = rnt_listing::program(STDERR_FILENO);
-    let options = listing::arguments::options(program);
-    rnt_listing::run(program, options, STDIN_FILENO);
+fn main(rt: HostRuntime) -> io::Result<()> {
+    let program = rnt_listing::program(rt.stderr());
+    let options = listing::arguments::options(&rt, &program)?;
+    rnt_listing::run(&rt, &program, options, &mut rt.stdin())
 }

@@ -3,6 +3,7 @@ use crate::read::read_short;
 use crate::scan::Scan;
 use console::Short;
 use console::print::{put_number, put_word, say};
+use std::io;
 
 const ERROR: Short = *b"error line _____________";
 
@@ -50,28 +51,28 @@ pub fn call_of(line: &[u8], line_number: usize, names: &[Short]) -> Call {
 }
 
 // Which line an error is in, the script's first being 1.
-pub fn put_error(line_number: usize) {
-    say(ERROR);
-    put_number(line_number);
+pub fn put_error(rt: &impl Print, line_number: usize) -> io::Result<()> {
+    say(rt, ERROR)?;
+    put_number(rt, line_number)
 }
 
 // What is wrong with a line, and at which of its characters, the first being 1.
-fn put_fault(s: Scan) {
+fn put_fault(rt: &impl Print, s: Scan) -> io::Result<()> {
     let fault = s.fault;
     let missing = s.missing;
-    put_error(s.line_number);
-    say(COLUMN);
-    put_number(std::num::wrapping_add_usize(s.at, 1));
-    put_word(fault);
-    put_word(missing);
+    put_error(rt, s.line_number)?;
+    say(rt, COLUMN)?;
+    put_number(rt, std::num::wrapping_add_usize(s.at, 1))?;
+    put_word(rt, fault)?;
+    put_word(rt, missing)
 }
 
 // Whether a line is read without a fault up to its end. Where it is not, that is the answer.
-pub fn is_understood(line: &[u8], s: Scan) -> bool {
+pub fn is_understood(rt: &impl Print, line: &[u8], s: Scan) -> io::Result<bool> {
     let s = s.end(line);
     if s.is_fine {
-        return true;
+        return Ok(true);
     }
-    put_fault(s);
-    false
+    put_fault(rt, s)?;
+    Ok(false)
 }

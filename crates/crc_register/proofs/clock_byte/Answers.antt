@@ -17,7 +17,7 @@ loop-preserved c =
     let l = c.loop in
     let small : l.q < 2 ^ 32 = within a.r a.x l.q l.counter (omega arith) (omega arith) l.invariant.1 in
     let moved : shift l.q ≡ c.if-q-ge2147483648.q =
-        elim c.if-q-ge2147483648.branch [ then-q-ge2147483648 w ↦ shift-high l.q w.if-q-ge2147483648.true small ∙ sym w.q-is | else-q-ge2147483648 w ↦ shift-low l.q w.if-q-ge2147483648.false ∙ sym w.q-is ] in
+    elim c.if-q-ge2147483648.branch [ then-q-ge2147483648 w ↦ shift-high l.q w.if-q-ge2147483648.true small ∙ sym w.q-is | else-q-ge2147483648 w ↦ shift-low l.q w.if-q-ge2147483648.false ∙ sym w.q-is ] in
     (search rules, next-clock a.r a.x l.q l.counter (omega arith) (omega arith) l.invariant.1 moved)
 
 pub returns : goal.returns

@@ -19,10 +19,15 @@ use Rattle.locator.specs.declared.writing.LocatorBytes.{LocatorBytes}
 use Rattle.locator.proofs.Spelling.{bit_le}
 use Rattle.locator.proofs.Written.{written-take}
 use Rattle.link.specs.declared.LinkItem.{LinkItem}
-use Rattle.link_draft.specs.Writing.{item_parts, items_parts, put_all}
+use Rattle.link.specs.declared.LinkFields.{LinkFields}
+use Rattle.link_draft.specs.Writing.{item_parts, items_parts, tail_parts, put_all}
 use Rattle.link_draft.proofs.Counted.{counted_next, counted_none}
 use Rattle.link_draft.proofs.Parts.{all-length, all_past}
 use Rattle.link_writer.specs.Stages.{Puts}
+
+-- the parts that are left: the items from i on, and the tail
+abbrev pub left : List ℕ → List LinkItem → LinkFields → ℕ → List (List ℕ)
+left t items f i = items_parts t (drop i (take f.number_items items)) ++ tail_parts t f
 
 pub puts_none : (xs : List ℕ) (at : ℕ) → Puts xs at [] xs at
 puts_none xs at = record { rest = λ qs. refl }

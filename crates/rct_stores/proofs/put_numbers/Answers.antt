@@ -17,4 +17,4 @@ bounds-b-10 c = simp length-set (omega arith)
 
 pub returns : goal.returns
 returns c =
-    all-stored _ _ _ _ (omega arith) (omega (arith, c.to_bytes-bytes.type_inv 0, c.to_bytes-bytes.type_inv 1)) (rw c.of_bytes-old.ensures at c.to_bytes-bytes.ensures)
+    all-stored _ _ _ _ (omega arith) (omega (arith, c.slice_known-1.given 1, c.slice_known-1.given 2)) (rw c.of_bytes-old.ensures at c.to_bytes-bytes.ensures)

@@ -8,7 +8,7 @@ pub returns : goal.returns
 unfolding info_of
 returns c =
     let args = c.args in
-    let b = bytes-known args.b.now c.type_inv.b in
+    let b = bytes-known args.b.now c.slice_known-1.given in
     let marks = rw c.fields.ensures at c.of-marks.ensures in
     let told = append-indexed args.b.now args.text.now _ args.index b _ _ c.put_last-put.ensures.value marks in
     record { value = rw (← told, ← c.last_of.ensures) c.answered.ensures; b_after = c.put_last-put.ensures.b_after }

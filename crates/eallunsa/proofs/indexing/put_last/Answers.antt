@@ -3,5 +3,4 @@ use Rattle.eallunsa.proofs.indexing.put_last.Goals as goal
 
 pub returns : goal.returns
 returns c =
-    let both = rw c.link.ensures at c.append_placed.ensures in
-    record { value = both.0; b_after = both.1 }
+    record { value = rw c.link.ensures at c.append_placed.ensures.value; b_after = rw c.link.ensures at c.append_placed.ensures.b_after }

@@ -6,5 +6,4 @@ use Rattle.rct_editor.proofs.editing.append.Goals as goal
 
 pub returns : goal.returns
 returns c =
-    let both = record { value = c.edited.ensures ∙ ap edited_by c.append_placed-put.ensures.value ∙ appending-edited _ _ _; b_after = c.append_placed-put.ensures.b_after } in
-    record { value = both.0; b_after = both.1 }
+    record { value = c.edited.ensures ∙ ap edited_by c.append_placed-put.ensures.value ∙ appending-edited _ _ _; b_after = c.append_placed-put.ensures.b_after }

@@ -23,7 +23,7 @@ put_between-edited-requires c =
     let args = c.args in
     let most-links = c.most_links in
     let g = walked-read _ _ _ (sym checked-places.ensures ∙ c.in-Read.is) in
-    let b = bytes-known args.b.now c.type_inv.b in
+    let b = bytes-known args.b.now c.slice_known-1.given in
     (append-spot args.b.now args.text.now args.link g.0 _ (ap (λ (p : RctPlaces). p.loop_at) g.1) b, (sym (ap (λ (p : RctPlaces). p.total) g.1), omega (arith, most-links.ensures)))
 
 pub returns-else-most_links-count : goal.returns-else-most_links-count
@@ -33,8 +33,8 @@ returns-else-most_links-count c =
     let most-links = c.most_links in
     let g = walked-read _ _ _ (sym checked-places.ensures ∙ c.in-Read.is) in
     let n = ap (λ (p : RctPlaces). p.count) g.1 in
-    let b = bytes-known args.b.now c.type_inv.b in
-    let both = append-goes args.b.now args.text.now args.link g.0 _ (ap (λ (p : RctPlaces). p.loop_at) g.1) b _ _ _ _ _ n (ap (λ (p : RctPlaces). p.total) g.1) (omega (arith, most-links.ensures)) c.put_between-edited.ensures c.of.ensures in
+    let b = bytes-known args.b.now c.slice_known-1.given in
+    let both = append-goes args.b.now args.text.now args.link g.0 _ (ap (λ (p : RctPlaces). p.loop_at) g.1) b _ _ _ _ _ n (ap (λ (p : RctPlaces). p.total) g.1) (omega (arith, most-links.ensures)) (c.put_between-edited.ensures.value, c.put_between-edited.ensures.b_after) c.of.ensures in
     record { value = both.0; b_after = both.1 }
 
 pub returns-in-Refused : goal.returns-in-Refused

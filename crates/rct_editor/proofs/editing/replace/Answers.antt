@@ -6,5 +6,4 @@ use Rattle.rct_editor.proofs.editing.replace.Goals as goal
 
 pub returns : goal.returns
 returns c =
-    let both = record { value = c.edited.ensures ∙ ap edited_by c.replace_placed-put.ensures.value ∙ replacing-edited _ _ _ _; b_after = c.replace_placed-put.ensures.b_after } in
-    record { value = both.0; b_after = both.1 }
+    record { value = c.edited.ensures ∙ ap edited_by c.replace_placed-put.ensures.value ∙ replacing-edited _ _ _ _; b_after = c.replace_placed-put.ensures.b_after }

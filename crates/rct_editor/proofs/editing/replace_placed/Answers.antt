@@ -24,7 +24,7 @@ put_between-edited-requires c =
     let if1 = c.if-count-number in
     let g = walked-read _ _ _ (sym checked-places.ensures ∙ c.in-Read.is) in
     let n = ap (λ (p : RctPlaces). p.count) g.1 in
-    let b = bytes-known args.b.now c.type_inv.b in
+    let b = bytes-known args.b.now c.slice_known-1.given in
     let f = span-known args.b.now args.number _ _ (omega (arith, if1.false, n)) (ap (λ (p : RctPlaces). p.link) g.1 ∙ c.in-At.is) in
     (replace-spot args.b.now args.number args.text.now args.link g.0 _ _ f b (omega (arith, if1.false, n)), (sym (ap (λ (p : RctPlaces). p.total) g.1), omega (arith, n, bytes-at args.b.now link_count_place b)))
 
@@ -35,9 +35,9 @@ returns-in-At c =
     let if1 = c.if-count-number in
     let g = walked-read _ _ _ (sym checked-places.ensures ∙ c.in-Read.is) in
     let n = ap (λ (p : RctPlaces). p.count) g.1 in
-    let b = bytes-known args.b.now c.type_inv.b in
+    let b = bytes-known args.b.now c.slice_known-1.given in
     let f = span-known args.b.now args.number _ _ (omega (arith, if1.false, n)) (ap (λ (p : RctPlaces). p.link) g.1 ∙ c.in-At.is) in
-    let both = replace-goes args.b.now args.number args.text.now args.link g.0 _ _ f b (omega (arith, if1.false, n)) _ _ _ _ _ n (ap (λ (p : RctPlaces). p.total) g.1) c.put_between-edited.ensures c.of.ensures in
+    let both = replace-goes args.b.now args.number args.text.now args.link g.0 _ _ f b (omega (arith, if1.false, n)) _ _ _ _ _ n (ap (λ (p : RctPlaces). p.total) g.1) (c.put_between-edited.ensures.value, c.put_between-edited.ensures.b_after) c.of.ensures in
     record { value = both.0; b_after = both.1 }
 
 pub returns-in-NoSuchLink : goal.returns-in-NoSuchLink
@@ -47,8 +47,7 @@ returns-in-NoSuchLink c =
     let if1 = c.if-count-number in
     let g = walked-read _ _ _ (sym checked-places.ensures ∙ c.in-Read.is) in
     let n = ap (λ (p : RctPlaces). p.count) g.1 in
-    let both = absurd (span-absent args.b.now args.number (ap (λ (p : RctPlaces). p.link) g.1 ∙ c.in-NoSuchLink.is) (omega (arith, if1.false, n))) in
-    record { value = both.0; b_after = both.1 }
+    absurd (span-absent args.b.now args.number (ap (λ (p : RctPlaces). p.link) g.1 ∙ c.in-NoSuchLink.is) (omega (arith, if1.false, n)))
 
 pub returns-in-Refused : goal.returns-in-Refused
 returns-in-Refused c =

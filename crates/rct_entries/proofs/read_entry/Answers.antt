@@ -66,3 +66,17 @@ returns-in-Refused c =
     let past = c.past_entry_length-end in
     let s = args.payload.now in
     entry-refused s args.at _ (entry-stop s _ args.at _ (reached-refused _ _ _ (sym past.ensures ∙ c.in-Refused.is)))
+
+pub slice_bounds-read_fields-start : goal.slice_bounds-read_fields-start
+slice_bounds-read_fields-start c =
+    let args = c.args in
+    let past = c.past_entry_length-end in
+    let k = length-passed args.payload.now _ args.at _ (sym past.ensures ∙ c.in-At.is) in
+    search rules
+
+pub slice_bounds-read_fields-end : goal.slice_bounds-read_fields-end
+slice_bounds-read_fields-end c =
+    let args = c.args in
+    let past = c.past_entry_length-end in
+    let k = length-passed args.payload.now _ args.at _ (sym past.ensures ∙ c.in-At.is) in
+    search rules

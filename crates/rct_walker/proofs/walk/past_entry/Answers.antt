@@ -33,3 +33,17 @@ returns-in-Refused c =
     let args = c.args in
     let past = c.past_entry_length-end in
     refused-reached _ _ _ (entry-stop args.payload.now _ _ _ (reached-refused _ _ _ (sym past.ensures ∙ c.in-Refused.is)))
+
+pub slice_bounds-check_body-start : goal.slice_bounds-check_body-start
+slice_bounds-check_body-start c =
+    let args = c.args in
+    let past = c.past_entry_length-end in
+    let k = length-passed args.payload.now _ args.at _ (sym past.ensures ∙ c.in-At.is) in
+    search rules
+
+pub slice_bounds-check_body-end : goal.slice_bounds-check_body-end
+slice_bounds-check_body-end c =
+    let args = c.args in
+    let past = c.past_entry_length-end in
+    let k = length-passed args.payload.now _ args.at _ (sym past.ensures ∙ c.in-At.is) in
+    search rules

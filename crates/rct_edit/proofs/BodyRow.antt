@@ -4,10 +4,9 @@
 use mathlib.Core.Path.{◌≡◌, refl, sym, ap}
 use Prim.Native.Nat.{ℕ, ◌≤◌}
 use mathlib.Core.List.{List}
-use lib.Dec.{ltb}
 use lib.ListN.{length}
 use Rattle.length_field.specs.Lengths.{longest}
-use Rattle.wire.specs.Verdict.{refuse, ◌▷◌}
+use Rattle.wire.specs.Verdict.{◌▷◌}
 use Rattle.wire.specs.declared.verdict.Verdict.{Verdict}
 use Rattle.wire.specs.declared.verdict.Verdict.TheVariants.{Fine, Refused}
 use Rattle.wire.proofs.Verdicts.{go_on, passed-ltb, pass-ltb}
@@ -17,15 +16,8 @@ use Rattle.rct.specs.Syntax.{Section, section_length}
 use Rattle.rct.specs.Reading.{number_row, section_at, checked}
 use Rattle.rct.proofs.Checked.{count_is, number_passed}
 use Rattle.rct_edit.specs.Edit.{with_link, with_next, length_row, count_row, room_row, room_rows, edit_verdict, replace_verdict, append_verdict}
+use Rattle.rct_edit.proofs.WithRow.{body_row, with_row}
 use Rattle.rct_edit.proofs.Records.{with-short, next-short}
-
--- the row, of the length of a link's body
-abbrev pub body_row : ℕ → Verdict
-body_row n = refuse (ltb longest n) 27 n longest
-
--- an edit's verdict with the row in its place; the section would become s with the link l in it
-abbrev pub with_row : List ℕ → Verdict → Verdict → Link → Section → Verdict
-with_row xs row v l s = checked xs ▷ row ▷ v ▷ length_row (section_length s) ▷ body_row (length (link_body l)) ▷ room_row (length xs) (section_length s)
 
 -- what follows a row matters only where the row is passed
 then_same : (u w w' : Verdict) → (u ≡ Fine → w ≡ w') → u ▷ w ≡ u ▷ w'

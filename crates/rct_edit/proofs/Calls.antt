@@ -18,7 +18,6 @@ use Rattle.link.specs.Records.{link_of}
 use Rattle.link.specs.declared.LinkInfo.{LinkInfo}
 use Rattle.link.specs.declared.Range.{Range}
 use Rattle.link_draft.specs.Checks.{check_link}
-use Rattle.frame.specs.Syntax.{limit}
 use Rattle.frame.specs.Reading.{checked_demands, total_of}
 use Rattle.rct.specs.declared.RctHeader.{RctHeader}
 use Rattle.rct.specs.Syntax.{Section, section_length, full_length, sealed, RctHeaderFits, Fits}

@@ -4,6 +4,7 @@ pub mod Records
 pub mod Outcomes
 pub mod Placed
 pub mod Calls
+pub mod WithRow
 pub mod BodyRow
 pub mod Listed
 pub mod Rows

@@ -3,7 +3,6 @@ use native.Mathlib.Omega.{arith}
 use Rattle.wire.specs.Verdict.{refuse, ◌▷◌}
 use Rattle.frame.specs.Syntax.{limit}
 use Rattle.rct_edit.specs.Edit.{room_rows}
-use borrow.Author.Rules.{rules}
 use Rattle.rct_edit.proofs.room.check_room.Goals as goal
 
 pub returns-then-section_length-gt-LIMIT : goal.returns-then-section_length-gt-LIMIT

@@ -1,38 +1,12 @@
 // Digits to base 10 and to base 16.
-ghost use Rattle.std.specs.Prelude.{◌≤◌};
+// The kit's function puts them: it is proved which digits it puts, and how many.
+pub use io::decimal;
 
 // The most digits that a number has to base 10.
 pub const MOST_DIGITS: usize = 20;
 
 // The digits of a number to base 10, from the front.
 pub type Digits = [u8; MOST_DIGITS];
-
-// How many digits a number has to base 10.
-fn width(number: usize) -> usize
-    ensures { result ≤ MOST_DIGITS }
-{
-    let mut rest = number;
-    for width in 1..MOST_DIGITS {
-        rest /= 10;
-        if rest == 0 {
-            return width;
-        }
-    }
-    MOST_DIGITS
-}
-
-// Puts a number's digits to base 10 at the start of `digits`, and answers how many they are.
-pub fn decimal(number: usize, digits: &mut Digits) -> usize
-    ensures { result ≤ MOST_DIGITS }
-{
-    let count = width(number);
-    let mut rest = number;
-    for at in (0..count).rev() {
-        digits[at] = b'0' + (rest % 10) as u8;
-        rest /= 10;
-    }
-    count
-}
 
 // The digit of a value.
 pub(crate) fn glyph(d: u8) -> u8 {

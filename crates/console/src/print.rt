@@ -43,7 +43,7 @@ fn spell_byte(text: &mut Text, byte: u8) -> usize {
 fn spell_part(text: &mut Text, c: u8, number: u16) -> usize {
     match c {
         b'_' => 0,
-        b'#' | b'%' | b'~' | b'?' => decimal(number as usize, text),
+        b'#' | b'%' | b'~' | b'?' => decimal(number as u64, text),
         b'*' => spell_byte(text, (number % 256) as u8),
         _ => spell_letter(text, c),
     }

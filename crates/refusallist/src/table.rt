@@ -88,7 +88,7 @@ fn past_front(page: &[u8], from: Seen, digits: &[u8], length: usize) -> Seen {
 }
 
 fn spell(digits: &mut Digits, number: usize) -> usize {
-    decimal(number, digits)
+    decimal(number as u64, digits)
 }
 
 // Past a cell with the first so many of these digits.

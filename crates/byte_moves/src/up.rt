@@ -6,13 +6,14 @@ ghost use Rattle.byte_moves.specs.Stages.{run, moved_up};
 
 use crate::run::{RUN, move_run};
 
-// The `n` bytes at `from` go to `to`, which is not lower.
+// The `n` bytes at `from` go to `to`, which is not lower. The library goes byte by byte, so that runs go
+// before it, and what is left is less than one.
 pub(crate) fn move_up(b: &mut [u8], from: usize, to: usize, n: usize)
     requires { (from ≤ to) × (to + n ≤ length b.old) }
     ensures { b.new ≡ sets b.old to (part b.old from n) }
 {
     let left = runs_up(b, from, to, n);
-    bytes_up(b, from, to, left);
+    b.copy_within(from..from + left, to);
 }
 
 // Run by run. The answer is how many bytes are left, the first ones.
@@ -26,16 +27,4 @@ fn runs_up(b: &mut [u8], from: usize, to: usize, n: usize) -> usize
         move_run(b, from + left, to + left);
     }
     left
-}
-
-// Byte by byte.
-fn bytes_up(b: &mut [u8], from: usize, to: usize, n: usize)
-    requires { (from ≤ to) × (to + n ≤ length b.old) }
-    ensures { b.new ≡ sets b.old to (part b.old from n) }
-{
-    let mut left = n;
-    while 0 < left {
-        left -= 1;
-        b[to + left] = b[from + left];
-    }
 }

@@ -1,6 +1,6 @@
 -- Each public function's own contract takes every input and leaves one outcome.
 -- Assumes nothing.
-use mathlib.Core.Path.{◌≡◌, refl}
+use mathlib.Core.Path.{refl}
 use Rattle.wire.proofs.One.{One, both, pair}
 use Rattle.byte_stores.proofs.put_at.Kinds as put-at-kinds
 use Rattle.byte_stores.proofs.put_at.Reads as put-at-reads

@@ -16,10 +16,6 @@ pub fn put_at(b: &mut [u8], at: usize, t: &[u8]) -> bool
     if b.len() - n < at {
         return false;
     }
-    let mut i: usize = 0;
-    while i < n {
-        b[at + i] = t[i];
-        i += 1;
-    }
+    b[at..at + n].copy_from_slice(t);
     true
 }

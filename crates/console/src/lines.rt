@@ -9,12 +9,10 @@ pub struct Unread {
     pub to: usize,
 }
 
-// A line: how many of its characters are kept, one more than there is room for where it is too long. Past the last line
-// the input is over.
+// A line: how many of its characters are kept, one more than there is room for where it is too long.
 #[derive(Drop)]
 pub struct Line {
     pub kept: usize,
-    pub is_over: bool,
     pub unread: Unread,
 }
 
@@ -59,19 +57,18 @@ impl Unread {
 
     // Whether the input ends here: a last line that no newline ends counts, an empty one does not.
     fn is_over(self, kept: usize) -> bool {
-        match kept {
-            0 => self.to == 0,
-            _ => false,
-        }
+        kept == 0 && self.to == 0
     }
 
-    // The line that ends here.
-    fn ended(self, kept: usize) -> Line {
-        Line {
-            kept,
-            is_over: self.is_over(kept),
-            unread: self.passed(),
+    // The line that ends here, if one does.
+    fn ended(self, kept: usize) -> Option<Line> {
+        if self.is_over(kept) {
+            return None;
         }
+        Some(Line {
+            kept,
+            unread: self.passed(),
+        })
     }
 }
 
@@ -83,13 +80,14 @@ fn keep(line: &mut [u8], kept: usize, c: u8) -> usize {
     line.len() + 1
 }
 
-// A proved loop has to end, and nothing says that a line does: so it counts up to a number that no run uses up.
+// The next line, or none past the last one. A proved loop has to end, and nothing says that a line does: so it counts up to a
+// number that no run uses up.
 pub fn read_line(
     input: &mut impl Read,
     block: &mut [u8],
     line: &mut [u8],
     unread: Unread,
-) -> io::Result<Line> {
+) -> io::Result<Option<Line>> {
     let mut unread = unread;
     let mut kept: usize = 0;
     for _ in 0..u64::MAX {

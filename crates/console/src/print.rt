@@ -1,5 +1,5 @@
 // Printing by forms. What one of these functions prints is gathered in a block, which is written when it is full and at the
-// end. Counts and places are added by wrapping sums: none comes near the end of its type, and no proof has to say so.
+// end. Numbers used are counted by wrapping sums: none comes near the end of its type, and no proof has to say so.
 use crate::digits::{Digits, MOST_DIGITS, decimal, glyph};
 use crate::{Short, Word};
 use std::io;
@@ -9,10 +9,6 @@ use wire::verdict::Refusal;
 const BLOCK: usize = 512;
 
 const LONGEST: usize = MOST_DIGITS;
-
-type Block = [u8; BLOCK];
-
-type Text = Digits;
 
 const REFUSED: Short = *b"refused ________________";
 
@@ -28,95 +24,99 @@ pub enum Spelling {
     Text,
 }
 
-fn spell_letter(text: &mut Text, c: u8) -> usize {
-    text[0] = c;
-    1
-}
-
-fn spell_byte(text: &mut Text, byte: u8) -> usize {
-    text[0] = glyph(byte / 16);
-    text[1] = glyph(byte % 16);
-    2
-}
-
-// Puts what a character of a form stands for at the start of `text`, and answers how much it is.
-fn spell_part(text: &mut Text, c: u8, number: u16) -> usize {
-    match c {
-        b'_' => 0,
-        b'#' | b'%' | b'~' | b'?' => decimal(number as u64, text),
-        b'*' => spell_byte(text, (number % 256) as u8),
-        _ => spell_letter(text, c),
-    }
-}
-
-fn spell_doubled(text: &mut Text, c: u8) -> usize {
-    text[0] = c;
-    text[1] = c;
-    2
-}
-
-fn spell_escaped(text: &mut Text, byte: u8) -> usize {
-    text[0] = b'\\';
-    text[1] = b'x';
-    text[2] = glyph(byte / 16);
-    text[3] = glyph(byte % 16);
-    4
-}
-
-// A byte of a text whose character set is not known here: what ASCII prints is itself, any other byte is escaped, and so is
-// what escapes, by being doubled. So no text looks like another, nor has it a line's end in it.
-fn spell_character(text: &mut Text, c: u8) -> usize {
-    match c {
-        b'\\' => spell_doubled(text, c),
-        b' '..=b'~' => spell_letter(text, c),
-        _ => spell_escaped(text, c),
-    }
-}
-
-fn spell(text: &mut Text, c: u8, spelling: Spelling, number: u16) -> usize {
-    match spelling {
-        Spelling::Form => spell_part(text, c, number),
-        Spelling::Hex => spell_byte(text, c),
-        Spelling::Text => spell_character(text, c),
-    }
-}
-
-// Writes what waits, so that nothing waits any more.
-fn flush(out: &impl Print, block: &Block, n: usize) -> io::Result<usize> {
-    let bytes: &[u8] = block;
-    if n <= bytes.len() {
-        out.write_all(&bytes[0..n])?;
-    }
-    Ok(0)
-}
-
-fn put_front(block: &mut [u8], n: usize, text: &[u8], length: usize) {
-    if length <= text.len() {
-        byte_stores::put_at(block, n, &text[0..length]);
-    }
-}
-
-// Keeps a text behind the `n` characters that wait, and answers how many wait then: few enough for one text more.
-fn gather(
-    out: &impl Print,
-    block: &mut Block,
-    n: usize,
-    text: &Text,
+// What waits to be written: so many characters at the start of a block.
+#[derive(Drop)]
+struct Block {
+    characters: [u8; BLOCK],
     length: usize,
-) -> io::Result<usize> {
-    put_front(block, n, text, length);
-    let n = std::num::wrapping_add_usize(n, length);
-    if n > BLOCK - LONGEST {
-        return flush(out, block, n);
+}
+
+impl Block {
+    fn empty() -> Block {
+        Block {
+            characters: [0; BLOCK],
+            length: 0,
+        }
     }
-    Ok(n)
+
+    fn add(&mut self, c: u8) {
+        if self.length < BLOCK {
+            self.characters[self.length] = c;
+            self.length += 1;
+        }
+    }
+
+    // A byte in two digits to base 16.
+    fn add_hex(&mut self, byte: u8) {
+        self.add(glyph(byte / 16));
+        self.add(glyph(byte % 16));
+    }
+
+    fn add_number(&mut self, number: u16) {
+        let mut digits: Digits = [0; MOST_DIGITS];
+        let length = decimal(number as u64, &mut digits);
+        for d in digits.iter().take(length) {
+            self.add(*d);
+        }
+    }
+
+    // What a character of a form stands for.
+    fn add_part(&mut self, c: u8, number: u16) {
+        match c {
+            b'_' => {}
+            b'#' | b'%' | b'~' | b'?' => self.add_number(number),
+            b'*' => self.add_hex((number % 256) as u8),
+            _ => self.add(c),
+        }
+    }
+
+    fn add_escaped(&mut self, byte: u8) {
+        self.add(b'\\');
+        self.add(b'x');
+        self.add_hex(byte);
+    }
+
+    // A byte of a text whose character set is not known here: what ASCII prints is itself, any other byte is escaped, and so is
+    // what escapes, by being doubled. So no text looks like another, nor has it a line's end in it.
+    fn add_character(&mut self, c: u8) {
+        match c {
+            b'\\' => {
+                self.add(c);
+                self.add(c);
+            }
+            b' '..=b'~' => self.add(c),
+            _ => self.add_escaped(c),
+        }
+    }
+
+    fn add_spelt(&mut self, c: u8, spelling: Spelling, number: u16) {
+        match spelling {
+            Spelling::Form => self.add_part(c, number),
+            Spelling::Hex => self.add_hex(c),
+            Spelling::Text => self.add_character(c),
+        }
+    }
+
+    // Writes what waits, so that nothing waits any more.
+    fn flush(&mut self, out: &impl Print) -> io::Result<()> {
+        if self.length <= BLOCK {
+            out.write_all(&self.characters[..self.length])?;
+        }
+        self.length = 0;
+        Ok(())
+    }
+
+    // The same where there may be no room for what one character more stands for.
+    fn make_room(&mut self, out: &impl Print) -> io::Result<()> {
+        if self.length > BLOCK - LONGEST {
+            self.flush(out)?;
+        }
+        Ok(())
+    }
 }
 
 fn number_at(numbers: &[u16], i: usize) -> u16 {
-    if i < numbers.len() {
-        return numbers[i];
-    }
-    0
+    numbers.get(i).copied().unwrap_or(0)
 }
 
 // How many numbers are used once a character of a form is printed.
@@ -134,17 +134,14 @@ pub fn put_to(
     spelling: Spelling,
     numbers: &[u16],
 ) -> io::Result<()> {
-    let mut block = [0u8; BLOCK];
-    let mut text = [0u8; LONGEST];
-    let mut n: usize = 0;
+    let mut block = Block::empty();
     let mut used: usize = 0;
     for c in bytes {
-        let length = spell(&mut text, *c, spelling, number_at(numbers, used));
-        n = gather(out, &mut block, n, &text, length)?;
+        block.add_spelt(*c, spelling, number_at(numbers, used));
+        block.make_room(out)?;
         used = used_by(*c, used);
     }
-    flush(out, &block, n)?;
-    Ok(())
+    block.flush(out)
 }
 
 // A form with its numbers.

@@ -77,6 +77,7 @@ fn by_two(s: &[u8], from: Reached) -> u32
 {
     let end = s.len() - 8;
     let mut m = from;
+    // The place is a part of the state that is folded on.
     while m.at < end {
         m = read_on(s, m);
     }
@@ -123,6 +124,7 @@ fn by_five(s: &[u8], m: Reached) -> u32
 {
     let end = s.len() - 40;
     let mut n = begin_five(s, m);
+    // The place is a part of the state that is folded on.
     while n.at < end {
         n = fold_next(s, fold_next(s, n));
     }

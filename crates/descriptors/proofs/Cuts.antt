@@ -11,8 +11,7 @@ use lib.ListN.{length, drop, length-drop, length-append}
 use borrow.Author.Tests.{ltb-true, ltb-false}
 use Rattle.wire.specs.Lists.{Bytes}
 use Rattle.wire.specs.Refusals.{descriptor_cut}
-use Rattle.wire.specs.Verdict.{bad}
-use Rattle.wire.specs.declared.verdict.Verdict.TheVariants.{Fine}
+use Rattle.wire.specs.Verdict.{bad, Fine}
 use Rattle.wire.proofs.Among.{among-fine, among-never}
 use Rattle.wire.proofs.Lists.{bytes_drop}
 use Rattle.wire.proofs.Verdicts.{refused-row, row-says}

@@ -8,8 +8,7 @@ use mathlib.Core.List.{List, [], ◌∷◌, ◌++◌}
 use lib.ListN.{length, drop, length-drop, length-append}
 use lib.Seq.{take_at, drop_at}
 use Rattle.wire.specs.Refusals.{descriptor_cut}
-use Rattle.wire.specs.Verdict.{bad, ◌▷◌}
-use Rattle.wire.specs.declared.verdict.Verdict.TheVariants.{Fine}
+use Rattle.wire.specs.Verdict.{bad, ◌▷◌, Fine}
 use Rattle.wire.proofs.Among.{Among, among-fine, among-row, among_then}
 use Rattle.wire.proofs.Verdicts.{then-fine, go_on, stop, passed-ltb, pass-ltb, break-ltb}
 use Rattle.descriptors.specs.Syntax.{head_length, Descriptor, descriptor_bytes}

@@ -7,12 +7,12 @@ use mathlib.Core.List.{List, [], ◌∷◌, ◌++◌}
 use lib.ListN.{length, get_or, take, drop, take-append-drop}
 use lib.Seq.{length-take-le, drop-drop}
 use Rattle.wire.specs.Lists.{Bytes}
-use Rattle.wire.specs.declared.verdict.Verdict.TheVariants.{Fine}
 use Rattle.wire.proofs.RunLaws.{order-bytes}
 use Rattle.wire.proofs.Lists.{bytes-at, bytes_drop, bytes-part, length_part}
 use Rattle.descriptors.specs.Syntax.{head_length, Descriptor, descriptor_bytes, DescriptorFits, loop_bytes, LoopFits}
 use Rattle.descriptors.specs.Reading.{size_of, descriptor_of, descriptors_of, cut_verdict}
 use Rattle.descriptors.proofs.Loops.{over-loops, loop-empty, loop-more, descriptors-more, fine_more}
+use Rattle.wire.specs.Verdict.{Fine}
 
 -- ---- what fits is written as bytes
 

@@ -2,8 +2,7 @@
 -- Assumes nothing.
 use mathlib.Core.Path.{◌≡◌, refl}
 use mathlib.Core.List.{[], ◌∷◌}
-use Rattle.wire.specs.Verdict.{bad, refuse, ◌▷◌}
-use Rattle.wire.specs.declared.verdict.Verdict.TheVariants.{Fine}
+use Rattle.wire.specs.Verdict.{bad, refuse, ◌▷◌, Fine}
 use Rattle.descriptors.specs.Reading.{told, descriptors_of, cut_verdict}
 
 pub record Rows : Type 0 where

@@ -13,8 +13,7 @@ use borrow.Author.Tests.{lt-ltb, le-ltb, ltb-true, ltb-false}
 use Rattle.wire.specs.Choice.{pick}
 use Rattle.wire.specs.Lists.{part}
 use Rattle.wire.specs.Refusals.{descriptor_cut}
-use Rattle.wire.specs.Verdict.{bad}
-use Rattle.wire.specs.declared.verdict.Verdict.TheVariants.{Fine}
+use Rattle.wire.specs.Verdict.{bad, Fine}
 use Rattle.wire.proofs.Lists.{rest_part}
 use Rattle.descriptors.specs.Syntax.{head_length}
 use Rattle.descriptors.specs.Reading.{size_of, descriptors_of, cut_verdict}

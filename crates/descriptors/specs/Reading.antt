@@ -1,14 +1,11 @@
 -- A descriptor loop as it is read: the descriptors that bytes stand for, a total function of the bytes, and the verdict on the bytes, number 39 at the first descriptor that is cut off.
 -- Assumes nothing.
-use Rattle.std.specs.Prelude.{ℕ, zero, suc, ◌+◌, List, [], ◌∷◌, ltb, length, get_or, drop}
+use Rattle.std.specs.Prelude.{ℕ, zero, suc, ◌+◌, List, [], ◌∷◌, ltb, length, get_or, drop, Err, Ok, Result}
 use Rattle.wire.specs.Lists.{part}
 use Rattle.wire.specs.Refusals.{descriptor_cut}
-use Rattle.wire.specs.Verdict.{refuse, ◌▷◌}
-use Rattle.wire.specs.declared.verdict.Verdict.{Verdict}
-use Rattle.wire.specs.declared.verdict.Verdict.TheVariants.{Fine, Refused}
+use Rattle.wire.specs.Verdict.{refuse, ◌▷◌, Fine, Verdict}
 use Rattle.descriptors.specs.Syntax.{head_length, Descriptor}
-use Rattle.descriptors.specs.declared.DescriptorsCounted.{DescriptorsCounted}
-use Rattle.descriptors.specs.declared.DescriptorsCounted.TheVariants as count
+use Rattle.wire.specs.declared.verdict.Refusal.{Refusal}
 
 -- ---- the descriptor at the front
 
@@ -53,6 +50,6 @@ cut_verdict p xs = told (λ q. Fine) row_then xs p
 
 -- ---- the answer: how many, or the refusal
 
-unfoldable pub counted : Verdict → ℕ → DescriptorsCounted
-counted Fine n = count.Number n
-counted (Refused r) n = count.Refused r
+unfoldable pub counted : Verdict → ℕ → Result ℕ Refusal
+counted (Ok _) n = Ok n
+counted (Err r) n = Err r

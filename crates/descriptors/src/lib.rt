@@ -7,12 +7,6 @@ ghost use Rattle.descriptors.specs.Stages.{front_of};
 
 use wire::verdict::Refusal;
 
-#[derive(Drop)]
-pub enum DescriptorsCounted {
-    Number(usize),
-    Refused(Refusal),
-}
-
 // The bytes before a descriptor's body: its tag and its length.
 const HEAD: usize = 2;
 
@@ -64,16 +58,17 @@ fn count_front(s: &[u8], most: usize) -> Front
 
 // The number of descriptors of the loop that is the rest of `s` from `start` on, or 39 (place of the first that is cut off,
 // bytes left from there). From past the end on the loop is empty.
-pub fn count_descriptors(s: &[u8], start: usize) -> DescriptorsCounted
+pub fn count_descriptors(s: &[u8], start: usize) -> Result<usize, Refusal>
     ensures { result ≡ counted (cut_verdict start (drop start s.now)) (length (descriptors_of (drop start s.now))) }
 {
     let mut p = start;
     let mut n: usize = 0;
+    // A place that goes on by a length that stands there is no index over a range.
     while p < s.len() {
         let front = count_front(&s[p..], AT_A_TIME);
         if front.count == 0 {
             let left = s.len() - p;
-            return DescriptorsCounted::Refused(Refusal {
+            return Err(Refusal {
                 number: Refusal::DESCRIPTOR_CUT,
                 first: p,
                 second: left,
@@ -82,5 +77,5 @@ pub fn count_descriptors(s: &[u8], start: usize) -> DescriptorsCounted
         p = s.len() - front.left;
         n += front.count;
     }
-    DescriptorsCounted::Number(n)
+    Ok(n)
 }

@@ -8,44 +8,41 @@ use console::print::{put_refusal, say};
 use desk_index_words::index_words::{put_index, read_index};
 use desk_links::link_words::read_link;
 use desk_records::edited_words::put_edited;
-use rct_index::{IndexBuilt, IndexEdited, RctIndex};
-use script::calls::{NUMBER, OK, SET, call_of, is_understood};
+use rct_index::{IndexEdited, RctIndex};
+use script::calls::{NUMBER, OK, SET, Stop, call_of};
 use script::read::read_short;
 use script::scan::Scan;
 use std::io;
-use wire::verdict::Verdict;
+use wire::verdict::Refusal;
 
-const CALLS: [Short; 4] = [
-    *b"index___________________",
-    *b"index=__________________",
-    *b"ixappend________________",
-    *b"ixreplace_______________",
+// The calls of this crate.
+#[derive(Clone, Copy)]
+enum Call {
+    Build,
+    HandIn,
+    Append,
+    Replace,
+}
+
+const CALLS: [(Short, Call); 4] = [
+    (*b"index___________________", Call::Build),
+    (*b"index=__________________", Call::HandIn),
+    (*b"ixappend________________", Call::Append),
+    (*b"ixreplace_______________", Call::Replace),
 ];
 
-// Whether a line has one of these calls, and the index that is kept from here on.
-#[derive(Drop)]
-pub struct Kept {
-    pub is_mine: bool,
-    pub index: RctIndex,
-}
-
-impl Kept {
-    fn mine(index: RctIndex) -> Kept {
-        Kept {
-            is_mine: true,
-            index,
+// A refused building leaves an index of nothing, and it is kept.
+fn put_built(rt: &impl Print, built: Result<RctIndex, Refusal>) -> io::Result<RctIndex> {
+    let index = match built {
+        Ok(index) => {
+            say(rt, OK)?;
+            index
         }
-    }
-}
-
-// A refused building gives zeros, and they are kept.
-fn put_built(rt: &impl Print, built: IndexBuilt) -> io::Result<RctIndex> {
-    let verdict = built.verdict;
-    let index = built.index;
-    match verdict {
-        Verdict::Refused(refusal) => put_refusal(rt, refusal)?,
-        Verdict::Fine => say(rt, OK)?,
-    }
+        Err(refusal) => {
+            put_refusal(rt, refusal)?;
+            RctIndex::none()
+        }
+    };
     put_index(rt, index)?;
     Ok(index)
 }
@@ -59,85 +56,64 @@ fn put_brought(rt: &impl Print, b: &[u8], brought: IndexEdited) -> io::Result<Rc
     Ok(index)
 }
 
-fn build(
-    rt: &impl Print,
-    line: &[u8],
-    scan: Scan,
-    s: &[u8],
-    index: RctIndex,
-) -> io::Result<RctIndex> {
-    if is_understood(rt, line, scan)? {
-        return put_built(rt, rct_indexer::build_index(s));
-    }
+fn build(rt: &impl Print, scan: Scan<'_>, s: &[u8]) -> Result<RctIndex, Stop> {
+    scan.end()?;
+    let index = put_built(rt, rct_indexer::build_index(s))?;
     Ok(index)
 }
 
-fn hand_in(rt: &impl Print, line: &[u8], scan: Scan, index: RctIndex) -> io::Result<RctIndex> {
-    let read = read_index(line, scan);
-    let handed = read.index;
-    if is_understood(rt, line, read.scan)? {
-        say(rt, SET)?;
-        return Ok(handed);
-    }
+fn hand_in(rt: &impl Print, mut scan: Scan<'_>) -> Result<RctIndex, Stop> {
+    let index = read_index(&mut scan)?;
+    scan.end()?;
+    say(rt, SET)?;
     Ok(index)
 }
 
 fn append(
     rt: &impl Print,
-    line: &[u8],
-    scan: Scan,
+    mut scan: Scan<'_>,
     b: &mut [u8],
     text: &[u8],
     index: RctIndex,
-) -> io::Result<RctIndex> {
-    let read = read_link(line, scan);
-    let link = read.link;
-    if is_understood(rt, line, read.scan)? {
-        let brought = rct_index_editor::append(b, text, link, index);
-        return put_brought(rt, &b[..], brought);
-    }
+) -> Result<RctIndex, Stop> {
+    let link = read_link(&mut scan)?;
+    scan.end()?;
+    let brought = rct_index_editor::append(b, text, link, index);
+    let index = put_brought(rt, &b[..], brought)?;
     Ok(index)
 }
 
 fn replace(
     rt: &impl Print,
-    line: &[u8],
-    scan: Scan,
+    mut scan: Scan<'_>,
     b: &mut [u8],
     text: &[u8],
     index: RctIndex,
-) -> io::Result<RctIndex> {
-    let number = read_short(line, scan, NUMBER);
-    let read = read_link(line, number.scan);
-    let link = read.link;
-    if is_understood(rt, line, read.scan)? {
-        let k = number.numbers.0 as usize;
-        let brought = rct_index_editor::replace(b, k, text, link, index);
-        return put_brought(rt, &b[..], brought);
-    }
+) -> Result<RctIndex, Stop> {
+    let numbers = read_short(&mut scan, NUMBER)?;
+    let link = read_link(&mut scan)?;
+    scan.end()?;
+    let brought = rct_index_editor::replace(b, numbers[0] as usize, text, link, index);
+    let index = put_brought(rt, &b[..], brought)?;
     Ok(index)
 }
 
-// Carries out the call that a line has, if it is one of these.
+// Carries out the call that a line has, if it is one of these. The answer: the index that is kept from there on.
 pub fn carry_out(
     rt: &impl Print,
     line: &[u8],
-    line_number: usize,
     b: &mut [u8],
     text: &[u8],
     index: RctIndex,
-) -> io::Result<Kept> {
-    let call = call_of(line, line_number, &CALLS);
-    let scan = call.scan;
-    let number = call.number;
-    match number {
-        1 => Ok(Kept::mine(build(rt, line, scan, &b[..], index)?)),
-        2 => Ok(Kept::mine(hand_in(rt, line, scan, index)?)),
-        3 => Ok(Kept::mine(append(rt, line, scan, b, text, index)?)),
-        4 => Ok(Kept::mine(replace(rt, line, scan, b, text, index)?)),
-        _ => Ok(Kept {
-            is_mine: false,
-            index,
-        }),
-    }
+) -> Result<Option<RctIndex>, Stop> {
+    let Some((call, scan)) = call_of(line, &CALLS) else {
+        return Ok(None);
+    };
+    let kept = match call {
+        Call::Build => build(rt, scan, &b[..])?,
+        Call::HandIn => hand_in(rt, scan)?,
+        Call::Append => append(rt, scan, b, text, index)?,
+        Call::Replace => replace(rt, scan, b, text, index)?,
+    };
+    Ok(Some(kept))
 }

@@ -6,7 +6,7 @@ use rct_edit::MOST_LINKS;
 use rct_index::{LinkSets, RctIndex};
 use script::calls::NUMBERS;
 use script::read::read_short;
-use script::scan::Scan;
+use script::scan::{Fault, Scan};
 use std::io;
 
 const URI: Short = *b" index uri=_____________";
@@ -22,25 +22,14 @@ const FIRST: Short = *b" descriptors=# places=#_";
 
 const NEXT: Short = *b",#______________________";
 
-#[derive(Drop)]
-pub struct PlacesScan {
-    pub scan: Scan,
-    pub places: [u16; MOST_LINKS],
-}
-
-// The places behind the first one.
-fn read_places(line: &[u8], s: Scan, first: u16) -> PlacesScan {
-    let mut places = [0u16; MOST_LINKS];
-    places[0] = first;
-    let mut scan = s;
-    let mut i: usize = 1;
-    while i < MOST_LINKS {
-        let read = read_short(line, scan, NEXT);
-        scan = read.scan;
-        places[i] = read.numbers.0;
-        i += 1;
+// The first place, and those behind it.
+fn read_places(scan: &mut Scan<'_>, first: u16) -> Result<[u16; MOST_LINKS], Fault> {
+    let mut places = [first; MOST_LINKS];
+    for i in 1..MOST_LINKS {
+        let next = read_short(scan, NEXT)?;
+        places[i] = next[0];
     }
-    PlacesScan { scan, places }
+    Ok(places)
 }
 
 fn put_places(rt: &impl Print, places: &[u16]) -> io::Result<()> {
@@ -50,30 +39,18 @@ fn put_places(rt: &impl Print, places: &[u16]) -> io::Result<()> {
     Ok(())
 }
 
-#[derive(Drop)]
-pub struct IndexScan {
-    pub scan: Scan,
-    pub index: RctIndex,
-}
-
 // Any index: nothing says that it is one of a section.
-pub fn read_index(line: &[u8], s: Scan) -> IndexScan {
-    let by_uri = read_set(line, s);
-    let by_locator = read_set(line, by_uri.scan);
-    let by_icon = read_set(line, by_locator.scan);
-    let first = read_short(line, by_icon.scan, NUMBERS);
-    let by_places = read_places(line, first.scan, first.numbers.1);
-    let scan = by_places.scan;
-    let uri = by_uri.set;
-    let locator = by_locator.set;
-    let icon = by_icon.set;
-    let places = by_places.places;
-    let index = RctIndex {
+pub fn read_index(scan: &mut Scan<'_>) -> Result<RctIndex, Fault> {
+    let uri = read_set(scan)?;
+    let locator = read_set(scan)?;
+    let icon = read_set(scan)?;
+    let first = read_short(scan, NUMBERS)?;
+    let places = read_places(scan, first[1])?;
+    Ok(RctIndex {
         sets: LinkSets { uri, locator, icon },
         places,
-        descriptors: first.numbers.0,
-    };
-    IndexScan { scan, index }
+        descriptors: first[0],
+    })
 }
 
 fn put_sets(rt: &impl Print, sets: LinkSets) -> io::Result<()> {

@@ -2,8 +2,8 @@
 use console::Short;
 use console::print::{put_hex, say};
 use number_set::NumberSet;
-use script::read::{Numbers, read_short};
-use script::scan::Scan;
+use script::read::read_short;
+use script::scan::{Fault, Scan};
 use std::io;
 use wire::{be32, to_be32};
 
@@ -22,35 +22,21 @@ fn byte(number: u16) -> u8 {
     (number % 256) as u8
 }
 
-fn word_of(n: Numbers) -> u64 {
-    let high = be32(byte(n.0), byte(n.1), byte(n.2), byte(n.3));
-    let low = be32(byte(n.4), byte(n.5), byte(n.6), byte(n.7));
-    (high as u64) * HALF + (low as u64)
-}
-
-#[derive(Drop)]
-pub struct SetScan {
-    pub scan: Scan,
-    pub set: NumberSet,
+fn read_word(scan: &mut Scan<'_>, form: Short) -> Result<u64, Fault> {
+    let n = read_short(scan, form)?;
+    let high = be32(byte(n[0]), byte(n[1]), byte(n[2]), byte(n[3]));
+    let low = be32(byte(n[4]), byte(n[5]), byte(n[6]), byte(n[7]));
+    Ok((high as u64) * HALF + (low as u64))
 }
 
 // A set behind a space.
-pub fn read_set(line: &[u8], s: Scan) -> SetScan {
-    let a = read_short(line, s, FIRST);
-    let b = read_short(line, a.scan, NEXT);
-    let c = read_short(line, b.scan, NEXT);
-    let d = read_short(line, c.scan, NEXT);
-    let scan = d.scan;
-    let words = [
-        word_of(a.numbers),
-        word_of(b.numbers),
-        word_of(c.numbers),
-        word_of(d.numbers),
-    ];
-    SetScan {
-        scan,
-        set: NumberSet { words },
-    }
+pub fn read_set(scan: &mut Scan<'_>) -> Result<NumberSet, Fault> {
+    let first = read_word(scan, FIRST)?;
+    let second = read_word(scan, NEXT)?;
+    let third = read_word(scan, NEXT)?;
+    let fourth = read_word(scan, NEXT)?;
+    let words = [first, second, third, fourth];
+    Ok(NumberSet { words })
 }
 
 fn put_half(rt: &impl Print, half: u32) -> io::Result<()> {

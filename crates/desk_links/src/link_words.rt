@@ -1,12 +1,12 @@
 // A link and its items.
-use crate::locator_words::{ABSENT, put_locator, read_locator};
-use crate::range_words::{RANGE, put_range, range_of, read_range};
+use crate::locator_words::{put_locator, put_optional, read_locator, read_optional};
+use crate::range_words::{put_range, read_range};
 use console::Short;
 use console::print::{put, put_number, put_short, say};
-use link::{LangCode, LinkFields, LinkInfo, LinkItem, LinkLocator, MediaUri};
+use link::{LangCode, LinkFields, LinkInfo, LinkItem};
 use script::form::Part;
-use script::read::{Numbers, read, read_short};
-use script::scan::Scan;
+use script::read::{Numbers, goes_on, read, read_short};
+use script::scan::{Fault, Scan};
 use std::io;
 
 // What comes before the URI, before the locator, between it and the number of items, and behind the items.
@@ -23,82 +23,21 @@ const ITEM: Short = *b" item=__________________";
 
 const LANGUAGE: Short = *b"***:____________________";
 
-fn uri_form(is_absent: bool) -> Short {
-    if is_absent { ABSENT } else { RANGE }
-}
-
-fn uri_of(is_absent: bool, n: Numbers) -> MediaUri {
-    if is_absent {
-        return MediaUri::Absent;
-    }
-    let range = range_of(n);
-    MediaUri::Present(range)
-}
-
-fn put_uri(rt: &impl Print, s: &[u8], uri: MediaUri) -> io::Result<()> {
-    match uri {
-        MediaUri::Absent => say(rt, ABSENT),
-        MediaUri::Present(range) => put_range(rt, s, range),
-    }
-}
-
-#[derive(Drop)]
-pub struct LinkLocatorScan {
-    pub scan: Scan,
-    pub locator: LinkLocator,
-}
-
-fn read_link_locator(line: &[u8], s: Scan) -> LinkLocatorScan {
-    if s.is_at(line, b'-') {
-        let scan = read_short(line, s, ABSENT).scan;
-        return LinkLocatorScan {
-            scan,
-            locator: LinkLocator::Absent,
-        };
-    }
-    let read = read_locator(line, s);
-    let scan = read.scan;
-    let locator = read.locator;
-    LinkLocatorScan {
-        scan,
-        locator: LinkLocator::Present(locator),
-    }
-}
-
-fn put_link_locator(rt: &impl Print, locator: LinkLocator) -> io::Result<()> {
-    match locator {
-        LinkLocator::Absent => say(rt, ABSENT),
-        LinkLocator::Present(present) => put_locator(rt, present),
-    }
-}
-
-#[derive(Drop)]
-pub struct ItemScan {
-    pub scan: Scan,
-    pub item: LinkItem,
-}
-
 fn language_of(n: Numbers) -> LangCode {
     LangCode {
-        first: (n.0 % 256) as u8,
-        second: (n.1 % 256) as u8,
-        third: (n.2 % 256) as u8,
+        first: (n[0] % 256) as u8,
+        second: (n[1] % 256) as u8,
+        third: (n[2] % 256) as u8,
     }
 }
 
-fn read_item(line: &[u8], s: Scan) -> ItemScan {
-    let language = read_short(line, s, LANGUAGE);
-    let text = read_range(line, language.scan);
-    let scan = text.scan;
-    let language_code = language_of(language.numbers);
-    let promotional_text = text.range;
-    ItemScan {
-        scan,
-        item: LinkItem {
-            language_code,
-            promotional_text,
-        },
-    }
+fn read_item(scan: &mut Scan<'_>) -> Result<LinkItem, Fault> {
+    let language = read_short(scan, LANGUAGE)?;
+    let promotional_text = read_range(scan)?;
+    Ok(LinkItem {
+        language_code: language_of(language),
+        promotional_text,
+    })
 }
 
 pub fn put_item(rt: &impl Print, s: &[u8], item: LinkItem) -> io::Result<()> {
@@ -118,31 +57,19 @@ pub fn put_item(rt: &impl Print, s: &[u8], item: LinkItem) -> io::Result<()> {
     put_range(rt, s, text)
 }
 
-#[derive(Drop)]
-pub struct ItemsScan {
-    pub scan: Scan,
-    pub items: [LinkItem; LinkInfo::MOST_ITEMS],
-}
-
 // As many items as there are words for; those that the record has no room for are passed over, missing ones are none.
-fn read_items(line: &[u8], s: Scan) -> ItemsScan {
+fn read_items(scan: &mut Scan<'_>) -> Result<[LinkItem; LinkInfo::MOST_ITEMS], Fault> {
     let mut items = [LinkItem::none(); LinkInfo::MOST_ITEMS];
-    let mut scan = s;
-    let mut i: usize = 0;
-    while i < line.len() {
-        let word = read_short(line, scan, ITEM).scan;
-        if !word.is_fine {
-            return ItemsScan { scan, items };
+    for i in 0..scan.line.len() {
+        if !goes_on(scan, ITEM) {
+            return Ok(items);
         }
-        let read = read_item(line, word);
-        let item = read.item;
-        scan = read.scan;
+        let item = read_item(scan)?;
         if i < LinkInfo::MOST_ITEMS {
             items[i] = item;
         }
-        i += 1;
     }
-    ItemsScan { scan, items }
+    Ok(items)
 }
 
 fn put_items(rt: &impl Print, s: &[u8], link: LinkInfo) -> io::Result<()> {
@@ -156,46 +83,33 @@ fn put_items(rt: &impl Print, s: &[u8], link: LinkInfo) -> io::Result<()> {
     Ok(())
 }
 
-#[derive(Drop)]
-pub struct LinkScan {
-    pub scan: Scan,
-    pub link: LinkInfo,
-}
-
-pub fn read_link(line: &[u8], s: Scan) -> LinkScan {
-    let read = read(line, s, &HEAD);
-    let head = read.numbers;
-    let is_absent = read.scan.is_at(line, b'-');
-    let by_uri = read_short(line, read.scan, uri_form(is_absent));
-    let by_locator = read_link_locator(line, read_short(line, by_uri.scan, LOC).scan);
-    let counts = read_short(line, by_locator.scan, ITEMS);
-    let count = counts.scan.number(line, Part::number(u16::MAX));
-    let by_items = read_items(line, count);
-    let tail = read_short(line, by_items.scan, TAIL);
-    let by_range = read_range(line, tail.scan);
-    let scan = by_range.scan;
-    let media_uri = uri_of(is_absent, by_uri.numbers);
-    let dvb_binary_locator = by_locator.locator;
-    let items = by_items.items;
-    let descriptors = by_range.range;
+pub fn read_link(scan: &mut Scan<'_>) -> Result<LinkInfo, Fault> {
+    let head = read(scan, &HEAD)?;
+    let media_uri = read_optional(scan, |scan| read_range(scan))?;
+    read_short(scan, LOC)?;
+    let dvb_binary_locator = read_optional(scan, |scan| read_locator(scan))?;
+    let counts = read_short(scan, ITEMS)?;
+    let number_items = scan.number(Part::number(u16::MAX))?;
+    let items = read_items(scan)?;
+    let tail = read_short(scan, TAIL)?;
+    let descriptors = read_range(scan)?;
     let fields = LinkFields {
-        reserved_link_info_length: head.0,
-        link_type: head.1,
-        reserved_link_type: head.2,
-        how_related: head.3,
-        term_id: head.4,
-        group_id: head.5,
-        precedence: head.6,
+        reserved_link_info_length: head[0],
+        link_type: head[1],
+        reserved_link_type: head[2],
+        how_related: head[3],
+        term_id: head[4],
+        group_id: head[5],
+        precedence: head[6],
         media_uri,
         dvb_binary_locator,
-        reserved_number_items: counts.numbers.0,
-        number_items: count.value as usize,
-        default_icon_flag: tail.numbers.0 == 1,
-        icon_id: tail.numbers.1,
+        reserved_number_items: counts[0],
+        number_items: number_items as usize,
+        default_icon_flag: tail[0] == 1,
+        icon_id: tail[1],
         descriptors,
     };
-    let link = LinkInfo { fields, items };
-    LinkScan { scan, link }
+    Ok(LinkInfo { fields, items })
 }
 
 fn put_head(rt: &impl Print, fields: LinkFields) -> io::Result<()> {
@@ -219,9 +133,9 @@ pub fn put_before_items(rt: &impl Print, s: &[u8], fields: LinkFields) -> io::Re
     let uri = fields.media_uri;
     let locator = fields.dvb_binary_locator;
     put_head(rt, fields)?;
-    put_uri(rt, s, uri)?;
+    put_optional(rt, uri, |range| put_range(rt, s, range))?;
     say(rt, LOC)?;
-    put_link_locator(rt, locator)?;
+    put_optional(rt, locator, |present| put_locator(rt, present))?;
     put_short(rt, ITEMS, [fields.reserved_number_items, 0, 0, 0])?;
     put_number(rt, fields.number_items)
 }

@@ -3,7 +3,7 @@ use console::Short;
 use console::print::{put_short, say};
 use locator::{DvbBinaryLocator, DvbLocatorIdentifier, DvbLocatorService, DvbLocatorWindows};
 use script::read::{Numbers, read_short};
-use script::scan::Scan;
+use script::scan::{Fault, Scan};
 use std::io;
 
 // The identifier's type, the flag of the time's reliability, the reserved bit and the date.
@@ -45,22 +45,20 @@ struct Identifier {
     component: u8,
 }
 
-fn service_form(is_short: bool) -> Short {
-    if is_short { TRIPLET } else { FULL }
-}
-
-fn service_of(is_short: bool, n: Numbers) -> DvbLocatorService {
-    if is_short {
-        return DvbLocatorService::Triplet {
-            dvb_service_triplet_id: n.0,
-        };
+fn read_service(scan: &mut Scan<'_>) -> Result<DvbLocatorService, Fault> {
+    if scan.is_at(b'T') {
+        let n = read_short(scan, TRIPLET)?;
+        return Ok(DvbLocatorService::Triplet {
+            dvb_service_triplet_id: n[0],
+        });
     }
-    DvbLocatorService::Full {
-        reserved_inline_service: n.0,
-        transport_stream_id: n.1,
-        original_network_id: n.2,
-        service_id: n.3,
-    }
+    let n = read_short(scan, FULL)?;
+    Ok(DvbLocatorService::Full {
+        reserved_inline_service: n[0],
+        transport_stream_id: n[1],
+        original_network_id: n[2],
+        service_id: n[3],
+    })
 }
 
 fn put_service(rt: &impl Print, service: DvbLocatorService) -> io::Result<()> {
@@ -97,11 +95,11 @@ fn identifier_form(kind: u16) -> Short {
 fn identifier_of(kind: u16, n: Numbers) -> DvbLocatorIdentifier {
     match kind {
         NO_ID => DvbLocatorIdentifier::None,
-        EVENT_ID => DvbLocatorIdentifier::EventId { event_id: n.0 },
-        TVA_ID_EIT => DvbLocatorIdentifier::TvaIdEit { tva_id: n.0 },
+        EVENT_ID => DvbLocatorIdentifier::EventId { event_id: n[0] },
+        TVA_ID_EIT => DvbLocatorIdentifier::TvaIdEit { tva_id: n[0] },
         _ => DvbLocatorIdentifier::TvaIdPes {
-            tva_id: n.0,
-            component: (n.1 % 256) as u8,
+            tva_id: n[0],
+            component: (n[1] % 256) as u8,
         },
     }
 }
@@ -131,63 +129,66 @@ fn identifier_numbers(identifier: DvbLocatorIdentifier) -> Identifier {
     }
 }
 
-fn windows_form(are_absent: bool) -> Short {
-    if are_absent { ABSENT } else { WINDOWS }
+// What the line has there, or none where it says that it is absent.
+pub(crate) fn read_optional<'a, T, F: FnOnce(&mut Scan<'a>) -> Result<T, Fault>>(
+    scan: &mut Scan<'a>,
+    read: F,
+) -> Result<Option<T>, Fault>
+    requires { F.IsAlwaysCallable read }
+{
+    if scan.is_at(b'-') {
+        read_short(scan, ABSENT)?;
+        return Ok(None);
+    }
+    let present = read(scan)?;
+    Ok(Some(present))
 }
 
-fn windows_of(are_absent: bool, n: Numbers) -> DvbLocatorWindows {
-    if are_absent {
-        return DvbLocatorWindows::Absent;
+// So it is printed.
+pub(crate) fn put_optional<T, F: FnOnce(T) -> io::Result<()>>(
+    rt: &impl Print,
+    value: Option<T>,
+    put: F,
+) -> io::Result<()>
+    requires { F.IsAlwaysCallable put }
+{
+    match value {
+        None => say(rt, ABSENT),
+        Some(present) => put(present),
     }
-    DvbLocatorWindows::Present {
-        early_start_window: n.0,
-        late_end_window: n.1,
-    }
+}
+
+fn read_windows(scan: &mut Scan<'_>) -> Result<DvbLocatorWindows, Fault> {
+    let n = read_short(scan, WINDOWS)?;
+    Ok(DvbLocatorWindows {
+        early_start_window: n[0],
+        late_end_window: n[1],
+    })
 }
 
 fn put_windows(rt: &impl Print, windows: DvbLocatorWindows) -> io::Result<()> {
-    match windows {
-        DvbLocatorWindows::Absent => say(rt, ABSENT),
-        DvbLocatorWindows::Present {
-            early_start_window,
-            late_end_window,
-        } => put_short(rt, WINDOWS, [early_start_window, late_end_window, 0, 0]),
-    }
+    let early = windows.early_start_window;
+    put_short(rt, WINDOWS, [early, windows.late_end_window, 0, 0])
 }
 
-#[derive(Drop)]
-pub struct LocatorScan {
-    pub scan: Scan,
-    pub locator: DvbBinaryLocator,
-}
-
-pub fn read_locator(line: &[u8], s: Scan) -> LocatorScan {
-    let head = read_short(line, s, HEAD);
-    let is_short = head.scan.is_at(line, b'T');
-    let ids = read_short(line, head.scan, service_form(is_short));
-    let times = read_short(line, ids.scan, TIMES);
-    let kind = head.numbers.0;
-    let id = read_short(line, times.scan, identifier_form(kind));
-    let comma = read_short(line, id.scan, COMMA);
-    let are_absent = comma.scan.is_at(line, b'-');
-    let last = read_short(line, comma.scan, windows_form(are_absent));
-    let scan = last.scan;
-    let service = service_of(is_short, ids.numbers);
-    let identifier = identifier_of(kind, id.numbers);
-    let windows = windows_of(are_absent, last.numbers);
-    LocatorScan {
-        scan,
-        locator: DvbBinaryLocator {
-            scheduled_time_reliability: head.numbers.1 == 1,
-            reserved: head.numbers.2,
-            start_date: head.numbers.3,
-            service,
-            start_time: times.numbers.0,
-            duration: times.numbers.1,
-            identifier,
-            windows,
-        },
-    }
+pub fn read_locator(scan: &mut Scan<'_>) -> Result<DvbBinaryLocator, Fault> {
+    let head = read_short(scan, HEAD)?;
+    let kind = head[0];
+    let service = read_service(scan)?;
+    let times = read_short(scan, TIMES)?;
+    let id = read_short(scan, identifier_form(kind))?;
+    read_short(scan, COMMA)?;
+    let windows = read_optional(scan, |scan| read_windows(scan))?;
+    Ok(DvbBinaryLocator {
+        scheduled_time_reliability: head[1] == 1,
+        reserved: head[2],
+        start_date: head[3],
+        service,
+        start_time: times[0],
+        duration: times[1],
+        identifier: identifier_of(kind, id),
+        windows,
+    })
 }
 
 pub fn put_locator(rt: &impl Print, locator: DvbBinaryLocator) -> io::Result<()> {
@@ -209,5 +210,5 @@ pub fn put_locator(rt: &impl Print, locator: DvbBinaryLocator) -> io::Result<()>
         [id.id, id.component as u16, 0, 0],
     )?;
     say(rt, COMMA)?;
-    put_windows(rt, windows)
+    put_optional(rt, windows, |present| put_windows(rt, present))
 }

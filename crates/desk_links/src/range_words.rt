@@ -3,32 +3,24 @@ use console::Short;
 use console::print::{put_hex, put_number, say};
 use link::Range;
 use script::read::{Numbers, read_short};
-use script::scan::Scan;
+use script::scan::{Fault, Scan};
 use spans::{Span, handed};
 use std::io;
 
-pub const RANGE: Short = *b"@#+#____________________";
+const RANGE: Short = *b"@#+#____________________";
 
 const START: Short = *b"@_______________________";
 
-#[derive(Drop)]
-pub struct RangeScan {
-    pub scan: Scan,
-    pub range: Range,
-}
-
-pub fn range_of(n: Numbers) -> Range {
+fn range_of(n: Numbers) -> Range {
     Range {
-        start: n.0 as u32,
-        length: n.1 as u32,
+        start: n[0] as u32,
+        length: n[1] as u32,
     }
 }
 
-pub fn read_range(line: &[u8], s: Scan) -> RangeScan {
-    let read = read_short(line, s, RANGE);
-    let scan = read.scan;
-    let range = range_of(read.numbers);
-    RangeScan { scan, range }
+pub fn read_range(scan: &mut Scan<'_>) -> Result<Range, Fault> {
+    let numbers = read_short(scan, RANGE)?;
+    Ok(range_of(numbers))
 }
 
 // A range of the bytes `s`.

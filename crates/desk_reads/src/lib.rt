@@ -7,33 +7,43 @@ use console::print::{put_refusal, say};
 use desk_links::link_words::{put_before_items, put_behind_items, put_item, put_link};
 use desk_records::section_words::put_section;
 use frame::payload_end;
-use link::reading::{ItemRead, ItemStep, LinkRead};
+use link::reading::ItemStep;
+use link::{LinkInfo, LinkItem};
 use rct::RctHeader;
 use rct_entries::EntryRead;
 use rct_reader::RctSection;
-use script::calls::{NUMBER, NUMBERS, OK, call_of, is_understood};
+use script::calls::{NUMBER, NUMBERS, OK, Stop, call_of};
 use script::read::read_short;
 use script::scan::Scan;
 use spans::{Span, handed};
 use std::io;
-use wire::verdict::Verdict;
+use wire::verdict::Refusal;
 
-const CALLS: [Short; 4] = [
-    *b"plain___________________",
-    *b"checked_________________",
-    *b"link____________________",
-    *b"item____________________",
+// The calls of this crate.
+#[derive(Clone, Copy)]
+enum Call {
+    Plain,
+    Checked,
+    Link,
+    Item,
+}
+
+const CALLS: [(Short, Call); 4] = [
+    (*b"plain___________________", Call::Plain),
+    (*b"checked_________________", Call::Checked),
+    (*b"link____________________", Call::Link),
+    (*b"item____________________", Call::Item),
 ];
 
 // The item at a place. The answer: the place behind it.
 fn put_item_at(rt: &impl Print, s: &[u8], at: u32) -> io::Result<u32> {
     let step = link_reader::item_from(s, at);
     match step {
-        ItemStep::Got { item, next } => {
+        Ok(ItemStep { item, next }) => {
             put_item(rt, s, item)?;
             Ok(next)
         }
-        ItemStep::Refused(_) => Ok(at),
+        Err(_) => Ok(at),
     }
 }
 
@@ -50,17 +60,19 @@ fn put_items(rt: &impl Print, s: &[u8], count: usize, first: u32) -> io::Result<
 fn put_link_at(rt: &impl Print, payload: &[u8], at: u16) -> io::Result<u16> {
     let entry = rct_entries::read_entry(payload, at);
     match entry {
-        EntryRead::Got {
-            fields,
-            items_at,
-            next,
-        } => {
+        Ok(
+            EntryRead {
+                fields,
+                items_at,
+                next,
+            },
+        ) => {
             put_before_items(rt, payload, fields)?;
             put_items(rt, payload, fields.number_items, items_at)?;
             put_behind_items(rt, payload, fields)?;
             Ok(next)
         }
-        EntryRead::Refused(_) => Ok(at),
+        Err(_) => Ok(at),
     }
 }
 
@@ -84,81 +96,72 @@ fn put_whole(rt: &impl Print, s: &[u8], r: RctSection) -> io::Result<()> {
     put_links(rt, handed(s, Span { start: 0, length }), count)
 }
 
-fn put_read(rt: &impl Print, s: &[u8], r: RctSection) -> io::Result<()> {
-    let verdict = r.verdict;
-    match verdict {
-        Verdict::Refused(refusal) => put_refusal(rt, refusal),
-        Verdict::Fine => put_whole(rt, s, r),
+fn put_read(rt: &impl Print, s: &[u8], r: Result<RctSection, Refusal>) -> io::Result<()> {
+    match r {
+        Err(refusal) => put_refusal(rt, refusal),
+        Ok(section) => put_whole(rt, s, section),
     }
 }
 
-fn plain(rt: &impl Print, line: &[u8], scan: Scan, s: &[u8]) -> io::Result<()> {
-    if is_understood(rt, line, scan)? {
-        put_read(rt, s, rct_reader::read_section(s))?;
-    }
+fn plain(rt: &impl Print, scan: Scan<'_>, s: &[u8]) -> Result<(), Stop> {
+    scan.end()?;
+    put_read(rt, s, rct_reader::read_section(s))?;
     Ok(())
 }
 
-fn checked(rt: &impl Print, line: &[u8], scan: Scan, s: &[u8]) -> io::Result<()> {
-    if is_understood(rt, line, scan)? {
-        put_read(rt, s, rct_reader::check_section(s))?;
-    }
+fn checked(rt: &impl Print, scan: Scan<'_>, s: &[u8]) -> Result<(), Stop> {
+    scan.end()?;
+    put_read(rt, s, rct_reader::check_section(s))?;
     Ok(())
 }
 
-fn put_link_read(rt: &impl Print, s: &[u8], r: LinkRead) -> io::Result<()> {
-    let verdict = r.verdict;
-    let link = r.link;
-    match verdict {
-        Verdict::Refused(refusal) => put_refusal(rt, refusal),
-        Verdict::Fine => {
+fn put_link_read(rt: &impl Print, s: &[u8], r: Result<LinkInfo, Refusal>) -> io::Result<()> {
+    match r {
+        Err(refusal) => put_refusal(rt, refusal),
+        Ok(link) => {
             say(rt, OK)?;
             put_link(rt, s, link)
         }
     }
 }
 
-fn link(rt: &impl Print, line: &[u8], scan: Scan, s: &[u8]) -> io::Result<()> {
-    let read = read_short(line, scan, NUMBER);
-    if is_understood(rt, line, read.scan)? {
-        put_link_read(rt, s, rct_links::read_link(s, read.numbers.0 as usize))?;
-    }
+fn link(rt: &impl Print, mut scan: Scan<'_>, s: &[u8]) -> Result<(), Stop> {
+    let numbers = read_short(&mut scan, NUMBER)?;
+    scan.end()?;
+    put_link_read(rt, s, rct_links::read_link(s, numbers[0] as usize))?;
     Ok(())
 }
 
-fn put_item_read(rt: &impl Print, s: &[u8], r: ItemRead) -> io::Result<()> {
+fn put_item_read(rt: &impl Print, s: &[u8], r: Result<LinkItem, Refusal>) -> io::Result<()> {
     match r {
-        ItemRead::Refused(refusal) => put_refusal(rt, refusal),
-        ItemRead::Got(item) => {
+        Err(refusal) => put_refusal(rt, refusal),
+        Ok(item) => {
             say(rt, OK)?;
             put_item(rt, s, item)
         }
     }
 }
 
-fn item(rt: &impl Print, line: &[u8], scan: Scan, s: &[u8]) -> io::Result<()> {
-    let read = read_short(line, scan, NUMBERS);
-    if is_understood(rt, line, read.scan)? {
-        put_item_read(
-            rt,
-            s,
-            rct_links::read_item(s, read.numbers.0 as usize, read.numbers.1 as usize),
-        )?;
-    }
+fn item(rt: &impl Print, mut scan: Scan<'_>, s: &[u8]) -> Result<(), Stop> {
+    let numbers = read_short(&mut scan, NUMBERS)?;
+    scan.end()?;
+    let read = rct_links::read_item(s, numbers[0] as usize, numbers[1] as usize);
+    put_item_read(rt, s, read)?;
     Ok(())
 }
 
 // Carries out the call that a line has, if it is one of these. The answer: whether it is.
-pub fn carry_out(rt: &impl Print, line: &[u8], line_number: usize, s: &[u8]) -> io::Result<bool> {
-    let call = call_of(line, line_number, &CALLS);
-    let scan = call.scan;
-    let number = call.number;
-    match number {
-        1 => plain(rt, line, scan, s)?,
-        2 => checked(rt, line, scan, s)?,
-        3 => link(rt, line, scan, s)?,
-        4 => item(rt, line, scan, s)?,
-        _ => return Ok(false),
+// The crate desk_rnt has the same over its own calls: one function for both would be public, take a closure and ask of callers
+// that it may be called.
+pub fn carry_out(rt: &impl Print, line: &[u8], s: &[u8]) -> Result<bool, Stop> {
+    let Some((call, scan)) = call_of(line, &CALLS) else {
+        return Ok(false);
+    };
+    match call {
+        Call::Plain => plain(rt, scan, s)?,
+        Call::Checked => checked(rt, scan, s)?,
+        Call::Link => link(rt, scan, s)?,
+        Call::Item => item(rt, scan, s)?,
     }
     Ok(true)
 }

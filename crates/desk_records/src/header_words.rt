@@ -2,7 +2,7 @@
 use console::Short;
 use console::print::{put, put_number, put_short, say};
 use script::read::{read, read_short};
-use script::scan::Scan;
+use script::scan::{Fault, Scan};
 use section_header::SectionHeader;
 use std::io;
 
@@ -13,32 +13,22 @@ const FRONT: Short = *b" ssi=? ext=? res1=#_____";
 
 const BACK: [u8; 43] = *b" res5=# version=# current=? number=% last=%";
 
-#[derive(Drop)]
-pub struct HeaderScan {
-    pub scan: Scan,
-    pub header: SectionHeader,
-}
-
 // A section to be made has no total yet.
-pub fn read_header(line: &[u8], s: Scan, extension: Short) -> HeaderScan {
-    let by_front = read_short(line, s, FRONT);
-    let by_extension = read_short(line, by_front.scan, extension);
-    let by_back = read(line, by_extension.scan, &BACK);
-    let scan = by_back.scan;
-    let front = by_front.numbers;
-    let back = by_back.numbers;
-    let header = SectionHeader {
-        section_syntax_indicator: front.0 == 1,
-        private_indicator: front.1 == 1,
-        reserved_b1: front.2,
-        table_id_extension: by_extension.numbers.0,
-        reserved_b5: back.0,
-        version_number: back.1,
-        current_next_indicator: back.2 == 1,
-        section_number: (back.3 % 256) as u8,
-        last_section_number: (back.4 % 256) as u8,
-    };
-    HeaderScan { scan, header }
+pub fn read_header(scan: &mut Scan<'_>, extension: Short) -> Result<SectionHeader, Fault> {
+    let front = read_short(scan, FRONT)?;
+    let own = read_short(scan, extension)?;
+    let back = read(scan, &BACK)?;
+    Ok(SectionHeader {
+        section_syntax_indicator: front[0] == 1,
+        private_indicator: front[1] == 1,
+        reserved_b1: front[2],
+        table_id_extension: own[0],
+        reserved_b5: back[0],
+        version_number: back[1],
+        current_next_indicator: back[2] == 1,
+        section_number: (back[3] % 256) as u8,
+        last_section_number: (back[4] % 256) as u8,
+    })
 }
 
 fn put_front(rt: &impl Print, header: SectionHeader) -> io::Result<()> {

@@ -7,7 +7,7 @@ use link::Range;
 use rct::RctHeader;
 use script::form::Part;
 use script::read::read_short;
-use script::scan::Scan;
+use script::scan::{Fault, Scan};
 use std::io;
 
 const NAME: Short = *b" rct____________________";
@@ -21,32 +21,29 @@ const LINKS: Short = *b" links=_________________";
 
 // A section to be made: its header, the bits beside the loop's length, and the loop's descriptors in the lent text.
 #[derive(Drop)]
-pub struct SectionScan {
-    pub scan: Scan,
+pub struct NewSection {
     pub header: RctHeader,
     pub reserved: u16,
     pub descriptors: Range,
 }
 
 // A section to be made has no links yet.
-pub fn read_section(line: &[u8], s: Scan) -> SectionScan {
-    let name = read_short(line, s, NAME);
-    let front = read_header(line, name.scan, SERVICE);
-    let section = front.header;
-    let fields = read_short(line, front.scan, FIELDS);
-    let loops = read_range(line, fields.scan);
-    let descriptors = loops.range;
-    let links = read_short(line, loops.scan, LINKS);
+pub fn read_section(scan: &mut Scan<'_>) -> Result<NewSection, Fault> {
+    read_short(scan, NAME)?;
+    let section = read_header(scan, SERVICE)?;
+    let fields = read_short(scan, FIELDS)?;
+    let descriptors = read_range(scan)?;
+    read_short(scan, LINKS)?;
+    scan.number(Part::number(0))?;
     let header = RctHeader {
         section,
-        year_offset: fields.numbers.0,
+        year_offset: fields[0],
     };
-    SectionScan {
-        scan: links.scan.number(line, Part::number(0)),
+    Ok(NewSection {
         header,
-        reserved: fields.numbers.1,
+        reserved: fields[1],
         descriptors,
-    }
+    })
 }
 
 // A section of the bytes `s`, its header, loop and number of links.

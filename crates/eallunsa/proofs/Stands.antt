@@ -3,7 +3,6 @@
 use Prim.Native.Nat.{ℕ}
 use mathlib.Core.Path.{◌≡◌, refl, sym, ap, ◌∙◌}
 use mathlib.Core.List.{List}
-use Rattle.wire.specs.declared.verdict.Verdict.TheVariants.{Fine}
 use Rattle.link.specs.Records.{link_of}
 use Rattle.link.specs.declared.LinkInfo.{LinkInfo}
 use Rattle.link_draft.specs.Checks.{check_link}
@@ -15,6 +14,9 @@ use Rattle.flat_link.specs.Links.{link_flat, info_of}
 use Rattle.flat_link.specs.declared.FlatLink.{FlatLink}
 use Rattle.flat_link.proofs.Back.{info-back, flat_link_of, same-link}
 use Rattle.flat_answers.specs.Links.{link_answer}
+use Rattle.wire.specs.Verdict.{Fine}
+use Rattle.link.specs.Answers.{link_got}
+use Rattle.flat_answers.proofs.Told.{link-told}
 
 -- ---- two records that pass their checks and stand for the same link, each with its own text, give the same answers and bytes
 
@@ -37,10 +39,8 @@ module _ (xs t u : List ℕ) (f g : FlatLink) (p : check_link t (info_of f) ≡ 
 
 -- ---- a link that was read stands for what the library's record stands for, and may be handed in as that one
 
-pub link-stands : (xs : List ℕ) (k : ℕ) → flat_link_of xs (link_answer (numbered_link xs k)).link ≡ link_of xs (numbered_link xs k).link
-unfolding link_answer
-link-stands xs k = same-link xs (numbered_link xs k).link
+pub link-stands : (xs : List ℕ) (k : ℕ) → flat_link_of xs (link_answer (numbered_link xs k)).link ≡ link_of xs (link_got (numbered_link xs k))
+link-stands xs k = ap (λ a. flat_link_of xs a.link) (link-told (numbered_link xs k)) ∙ same-link xs (link_got (numbered_link xs k))
 
-pub link-handed-on : (xs : List ℕ) (k : ℕ) → info_of (link_answer (numbered_link xs k)).link ≡ (numbered_link xs k).link
-unfolding link_answer
-link-handed-on xs k = info-back (numbered_link xs k).link
+pub link-handed-on : (xs : List ℕ) (k : ℕ) → info_of (link_answer (numbered_link xs k)).link ≡ link_got (numbered_link xs k)
+link-handed-on xs k = ap (λ a. info_of a.link) (link-told (numbered_link xs k)) ∙ info-back (link_got (numbered_link xs k))

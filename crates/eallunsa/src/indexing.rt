@@ -16,6 +16,7 @@ use flat_answers::edits::{IndexAnswer, IndexEditAnswer};
 use flat_link::FlatLink;
 use number_set::NumberSet;
 use rct_index::{IndexEdited, LinkMarks, RctIndex};
+use wire::verdict::Refusal;
 
 // The index of a section.
 #[unsafe(no_mangle)]
@@ -51,25 +52,30 @@ pub extern "C" fn eallunsa_set_count(set: NumberSet) -> usize
 
 // The two halves of an edit with an index, one after the other: the record of the link is gone when the index is brought up,
 // and so they share the stack.
-fn put_last(b: &mut [u8], text: &[u8], link: FlatLink) -> Spliced
+fn put_last(b: &mut [u8], text: &[u8], link: FlatLink) -> Result<Spliced, Refusal>
     ensures value { result ≡ appending_placed b.old text.now (info_of link) }
     ensures b_after { b.new ≡ (appending b.old text.now (info_of link)).buffer }
 {
     rct_editor::editing::append_placed(b, text, link.link())
 }
 
-fn put_over(b: &mut [u8], number: usize, text: &[u8], link: FlatLink) -> Spliced
+fn put_over(b: &mut [u8], number: usize, text: &[u8], link: FlatLink) -> Result<Spliced, Refusal>
     ensures value { result ≡ replacing_placed b.old number text.now (info_of link) }
     ensures b_after { b.new ≡ (replacing b.old number text.now (info_of link)).buffer }
 {
     rct_editor::editing::replace_placed(b, number, text, link.link())
 }
 
-fn answered(index: RctIndex, number: usize, put: Spliced, marks: LinkMarks) -> IndexEditAnswer
+fn answered(
+    index: RctIndex,
+    number: usize,
+    put: Result<Spliced, Refusal>,
+    marks: LinkMarks,
+) -> IndexEditAnswer
     ensures { result ≡ index_edit_answer (record { edited = edited_by put; index = anew_by index number put marks }) }
 {
     IndexEditAnswer::of(IndexEdited {
-        edited: put.edited(),
+        edited: Spliced::edited(put),
         index: rct_index_updater::bring_up(index, number, put, marks),
     })
 }

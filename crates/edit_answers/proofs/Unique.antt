@@ -2,20 +2,10 @@
 -- Assumes nothing.
 use mathlib.Core.Path.{refl}
 use Rattle.wire.proofs.One.{One, both}
-use Rattle.edit_answers.proofs.Edited.refused.Kinds as refused-kinds
-use Rattle.edit_answers.proofs.Edited.refused.Reads as refused-reads
-use Rattle.edit_answers.proofs.Edited.accepted.Kinds as accepted-kinds
-use Rattle.edit_answers.proofs.Edited.accepted.Reads as accepted-reads
 use Rattle.edit_answers.proofs.Spliced.of.Kinds as of-kinds
 use Rattle.edit_answers.proofs.Spliced.of.Reads as of-reads
 use Rattle.edit_answers.proofs.Spliced.edited.Kinds as edited-kinds
 use Rattle.edit_answers.proofs.Spliced.edited.Reads as edited-reads
-
-pub refused-one : One refused-kinds.ps refused-kinds.r refused-reads.Asked refused-reads.Learnt
-refused-one = record { total = λ κs a. tt; one = λ κs a x y v w p q. (both p q, refl) }
-
-pub accepted-one : One accepted-kinds.ps accepted-kinds.r accepted-reads.Asked accepted-reads.Learnt
-accepted-one = record { total = λ κs a. tt; one = λ κs a x y v w p q. (both p q, refl) }
 
 pub of_one : One of-kinds.ps of-kinds.r of-reads.Asked of-reads.Learnt
 of_one = record { total = λ κs a. tt; one = λ κs a x y v w p q. (both p q, refl) }

@@ -1,26 +1,17 @@
--- What an edit answers: fine and the total of the new section, or the refusal and 0.
+-- What an edit answers: the total of the new section, or the refusal.
 -- Assumes nothing.
-use Rattle.std.specs.Prelude.{ℕ}
-use Rattle.wire.specs.declared.verdict.Verdict.{Verdict}
-use Rattle.wire.specs.declared.verdict.Verdict.TheVariants.{Fine, Refused}
-use Rattle.edit_answers.specs.declared.Edited.{Edited}
+use Rattle.std.specs.Prelude.{ℕ, Err, Ok, Result}
 use Rattle.edit_answers.specs.declared.Spliced.{Spliced}
-use Rattle.edit_answers.specs.declared.Spliced.TheVariants as spliced
+use Rattle.wire.specs.declared.verdict.Refusal.{Refusal}
 
-abbrev pub refused_with : Verdict → Edited
-refused_with v = record { verdict = v; total = 0 }
-
-abbrev pub accepted_with : ℕ → Edited
-accepted_with n = record { verdict = Fine; total = n }
+abbrev pub spliced_at : ℕ → ℕ → ℕ → ℕ → Result Spliced Refusal
+spliced_at total before count at = Ok (record { total = total; before = before; count = count; at = at })
 
 -- the same for whoever keeps places of the section: the totals after and before, the number of links before, the entry's place
-unfoldable pub spliced_as : Verdict → ℕ → ℕ → ℕ → ℕ → Spliced
-spliced_as Fine total before count at = spliced.Done total before count at
-spliced_as (Refused r) total before count at = spliced.Refused r
+unfoldable pub spliced_by : Result ℕ Refusal → ℕ → ℕ → ℕ → Result Spliced Refusal
+spliced_by (Ok total) before count at = spliced_at total before count at
+spliced_by (Err r) before count at = Err r
 
-abbrev pub spliced_by : Edited → ℕ → ℕ → ℕ → Spliced
-spliced_by e before count at = spliced_as e.verdict e.total before count at
-
-unfoldable pub edited_by : Spliced → Edited
-edited_by (spliced.Done total before count at) = accepted_with total
-edited_by (spliced.Refused r) = refused_with (Refused r)
+unfoldable pub edited_by : Result Spliced Refusal → Result ℕ Refusal
+edited_by (Ok done) = Ok done.total
+edited_by (Err r) = Err r

@@ -8,9 +8,9 @@ use native.Mathlib.Nat.{mod-eq_of_lt}
 use Rattle.field.specs.Fields.{check_field, low}
 use Rattle.field.specs.declared.Field.{Field}
 use Rattle.wire.specs.Refusals.{too_wide}
-use Rattle.wire.specs.declared.verdict.Verdict.TheVariants.{Fine}
 use Rattle.wire.proofs.Among.{Among, among-row}
 use Rattle.wire.proofs.Verdicts.{passed-ltb, pass-ltb}
+use Rattle.wire.specs.Verdict.{Fine}
 
 pub field-passed : (f : Field) (n : ℕ) → check_field f n ≡ Fine → n ≤ f.widest
 unfolding check_field

@@ -8,7 +8,7 @@ use lib.ListN.{length, get_or, get_or-map}
 use borrow.Author.Tests.{ne_eqb, lt-leb}
 use Rattle.field.specs.Fields.{fields, ranked}
 use Rattle.field.specs.declared.Field.{Field}
-use Rattle.field.specs.declared.Listed.TheVariants.{Known}
+use Rattle.std.specs.Prelude.{Some}
 
 -- k numbers from n on
 abbrev rising : ℕ → ℕ → List ℕ
@@ -29,7 +29,7 @@ in_order_lem = refl
 
 pub record RankListed (p : ℕ) : Type 0 where
   pub field : Field
-  pub listed : ranked p ≡ Known field
+  pub listed : ranked p ≡ Some field
   pub rank : field.rank ≡ p
 
 pub rank-listed : (p : ℕ) → 0 < p → p ≤ 24 → RankListed p

@@ -1,15 +1,12 @@
 -- The fields that refusal 22 names (docs/REFUSALS.md): each with its rank, which is its place in that list, and its widest number. The widths are those of ETSI TS 102 323,
 -- Tables 31, 109 and 110: a field of n bits holds at most 2^n - 1.
 -- Assumes nothing.
-use Rattle.std.specs.Prelude.{ℕ, ◌+◌, ◌-◌, ◌%◌, List, [], ◌∷◌, eqb, ltb, leb, length, get_or}
+use Rattle.std.specs.Prelude.{ℕ, ◌+◌, ◌-◌, ◌%◌, List, [], ◌∷◌, eqb, ltb, leb, length, get_or, None, Option, Some}
 use Rattle.wire.specs.Choice.{pick}
 use Rattle.length_field.specs.Lengths.{longest, widest_beside}
 use Rattle.wire.specs.Refusals.{too_wide}
-use Rattle.wire.specs.Verdict.{refuse}
+use Rattle.wire.specs.Verdict.{refuse, Verdict}
 use Rattle.field.specs.declared.Field.{Field}
-use Rattle.field.specs.declared.Listed.{Listed}
-use Rattle.field.specs.declared.Listed.TheVariants.{Known, Nothing}
-use Rattle.wire.specs.declared.verdict.Verdict.{Verdict}
 
 abbrev field : ℕ → ℕ → Field
 field p w = record { rank = p; widest = w }
@@ -140,8 +137,8 @@ fields =
     ∷ []
 
 -- the field of a rank
-abbrev pub ranked : ℕ → Listed
-ranked p = pick (eqb p 0) Nothing (pick (leb (length fields) (p - 1)) Nothing (Known (get_or fields (p - 1) (field 0 0))))
+abbrev pub ranked : ℕ → Option Field
+ranked p = pick (eqb p 0) None (pick (leb (length fields) (p - 1)) None (Some (get_or fields (p - 1) (field 0 0))))
 
 -- fine, or 22 with the field's rank and the number that is too wide for it
 unfoldable pub check_field : Field → ℕ → Verdict

@@ -6,20 +6,13 @@ ghost use Rattle.std.specs.Prelude.{◌≡◌};
 ghost use Rattle.field.specs.Fields.{ranked, check_field, low};
 
 use length_field::LengthField;
-use wire::verdict::{Refusal, Verdict};
+use wire::verdict::Refusal;
 
 // A field's kind: its rank in the list, where its constant says what it is, and its widest number.
 #[derive(Clone, Copy)]
 pub struct Field {
     pub rank: usize,
     pub widest: usize,
-}
-
-// The field of a rank in the list, if there is one.
-#[derive(Drop)]
-pub enum Listed {
-    Known(Field),
-    Nothing,
 }
 
 // The widest number of the 16 bits that a reader takes a field from.
@@ -172,33 +165,33 @@ impl Field {
     };
 
     // The field of a rank in the list.
-    pub fn of_rank(rank: usize) -> Listed
+    pub fn of_rank(rank: usize) -> Option<Field>
         ensures { result ≡ ranked rank }
     {
         if rank == 0 {
-            return Listed::Nothing;
+            return None;
         }
         let i = rank - 1;
         if LAST_RANK <= i {
-            return Listed::Nothing;
+            return None;
         }
         let all = LIST;
         let field = all[i];
-        Listed::Known(field)
+        Some(field)
     }
 
     // Refusal 22, with the rank and the number, if the number is too wide for the field.
-    pub fn check(self, number: usize) -> Verdict
+    pub fn check(self, number: usize) -> Result<(), Refusal>
         ensures { result ≡ check_field self number }
     {
         if self.widest < number {
-            return Verdict::Refused(Refusal {
+            return Err(Refusal {
                 number: Refusal::TOO_WIDE,
                 first: self.rank,
                 second: number,
             });
         }
-        Verdict::Fine
+        Ok(())
     }
 
     // The lowest bits of a number, as many as the field has: what a reader takes of the bits that a field ends. The test is

@@ -7,12 +7,11 @@ use lib.ListN.{get_or}
 use Rattle.field.specs.Fields.{low, number_items, number_items_reserved}
 use Rattle.link.specs.Records.{locator_info, fields_at}
 use Rattle.link.specs.declared.LinkFields.{LinkFields}
-use Rattle.link.specs.declared.LinkLocator.{LinkLocator}
-use Rattle.link.specs.declared.MediaUri.{MediaUri}
 use Rattle.fields_reader.specs.Stages.{Laid, head_at, tail_at, uri_to}
 use Rattle.fields_reader.specs.declared.record.Head.{Head}
 use Rattle.fields_reader.specs.declared.record.Tail.{Tail}
 use Rattle.fields_reader.proofs.Stages.{uri-info}
+use Rattle.link.specs.Options.{LinkLocator, MediaUri}
 
 abbrev fields_of : ℕ → Head → Tail → MediaUri → LinkLocator → ℕ → ℕ → LinkFields
 fields_of r head end uri locator beside n =

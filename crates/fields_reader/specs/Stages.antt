@@ -1,15 +1,14 @@
 -- What private stages of the code answer. No public contract cites these: what a body means is said in link/specs.
 -- Assumes nothing.
-use Rattle.std.specs.Prelude.{ℕ, ◌+◌, ◌-◌, ◌/◌, ◌^◌, ◌≤◌, ◌<◌, ◌≡◌, List, eqb, ltb, length}
+use Rattle.std.specs.Prelude.{ℕ, ◌+◌, ◌-◌, ◌/◌, ◌^◌, ◌≤◌, ◌<◌, ◌≡◌, List, eqb, ltb, length, None, Some}
 use Rattle.field.specs.Fields.{low, icon_id}
 use Rattle.wire.specs.Choice.{pick}
 use Rattle.length_field.specs.Lengths.{length_at, beside_at}
 use Rattle.link.specs.Syntax.{head_length}
 use Rattle.link.specs.Reading.{type_at, type_reserved_at, how_related_at, term_id_at, group_id_at, precedence_at, uri_start, uri_end_place, count_place, tail_place}
-use Rattle.link.specs.declared.MediaUri.{MediaUri}
-use Rattle.link.specs.declared.MediaUri.TheVariants as uri
 use Rattle.fields_reader.specs.declared.record.Head.{Head}
 use Rattle.fields_reader.specs.declared.record.Tail.{Tail}
+use Rattle.link.specs.Options.{MediaUri}
 
 -- the fields of the first four bytes
 abbrev pub head_at : List ℕ → Head
@@ -47,4 +46,4 @@ tail_at base xs p =
 
 -- a URI that ends at e: there is none if that is before the place where one starts
 unfoldable pub uri_to : ℕ → ℕ → MediaUri
-uri_to base e = pick (ltb e uri_start) uri.Absent (uri.Present (record { start = base + uri_start; length = e - uri_start }))
+uri_to base e = pick (ltb e uri_start) None (Some (record { start = base + uri_start; length = e - uri_start }))

@@ -2,17 +2,17 @@
 #![tactic(auto)]
 
 ghost use Rattle.std.specs.Prelude.{◌≡◌};
-ghost use Rattle.wire.specs.declared.verdict.Verdict.TheVariants.{Fine};
 ghost use Rattle.link.specs.Reading.{body_verdict};
 ghost use Rattle.link.specs.Records.{locator_info};
 ghost use Rattle.link.specs.Answers.{fields_read};
 ghost use Rattle.fields_reader.specs.Stages.{Laid};
+ghost use Rattle.wire.specs.Verdict.{Fine};
 
 use field::Field;
+use link::LinkFields;
 use link::reading::FieldsRead;
-use link::{LinkFields, LinkLocator};
-use link_walker::BodyPlaces;
-use locator::reading::LocatorRead;
+use locator::DvbBinaryLocator;
+use wire::verdict::Refusal;
 
 mod record;
 
@@ -22,65 +22,47 @@ fn fields_got(
     base: u16,
     reserved: u16,
     uri_end: usize,
-    locator: LinkLocator,
+    locator: Option<DvbBinaryLocator>,
     count_at: usize,
     tail: usize,
-) -> FieldsRead
+) -> Result<FieldsRead, Refusal>
     requires { (body_verdict s.now ≡ Fine) × Laid s.now uri_end count_at tail × (locator ≡ locator_info s.now) }
     ensures { result ≡ fields_read base reserved s.now }
 {
     let items = (base as usize) + (count_at + LinkFields::COUNT);
-    FieldsRead::Got {
+    Ok(FieldsRead {
         fields: record::fields_at(s, base, reserved, uri_end, locator, count_at, tail),
         items_at: items as u32,
-    }
+    })
 }
 
 // A link without its items, or its refusal. `base` is the body's place in the text that ranges and the place of the first
 // item are counted in, `reserved` the four bits before its length. Each of the two arms of a link makes its own answer, so
 // that of a link without a locator none is stored.
-pub fn read_fields(s: &[u8], base: u16, reserved: u16) -> FieldsRead
+pub fn read_fields(s: &[u8], base: u16, reserved: u16) -> Result<FieldsRead, Refusal>
     ensures { result ≡ fields_read base reserved s.now }
 {
-    let places = link_walker::fields_places(s);
-    match places {
-        BodyPlaces::At {
-            uri_end,
-            count_at,
-            tail,
-        } => {
-            if !link::has_locator(Field::LINK_TYPE.low((s[0] as u16) / 16)) {
-                return fields_got(
-                    s,
-                    base,
-                    reserved,
-                    uri_end,
-                    LinkLocator::Absent,
-                    count_at,
-                    tail,
-                );
-            }
-            let read = locator_reader::read_locator(&s[uri_end..]);
-            match read {
-                LocatorRead::Got { locator, used: _ } => {
-                    return fields_got(
-                        s,
-                        base,
-                        reserved,
-                        uri_end,
-                        LinkLocator::Present(locator),
-                        count_at,
-                        tail,
-                    );
-                }
-                // Never: the places were found.
-                LocatorRead::Refused(r) => {
-                    return FieldsRead::Refused(r);
-                }
-            }
-        }
-        BodyPlaces::Refused(r) => {
-            return FieldsRead::Refused(r);
-        }
+    let places = link_walker::fields_places(s)?;
+    if !link::has_locator(Field::LINK_TYPE.low((s[0] as u16) / 16)) {
+        return fields_got(
+            s,
+            base,
+            reserved,
+            places.uri_end,
+            None,
+            places.count_at,
+            places.tail,
+        );
     }
+    // Never: the places were found.
+    let read = locator_reader::read_locator(&s[places.uri_end..])?;
+    fields_got(
+        s,
+        base,
+        reserved,
+        places.uri_end,
+        Some(read.locator),
+        places.count_at,
+        places.tail,
+    )
 }

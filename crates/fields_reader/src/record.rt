@@ -5,7 +5,8 @@ ghost use Rattle.fields_reader.specs.Stages.{head_at, Laid, uri_to, tail_at};
 
 use field::Field;
 use length_field::LengthField;
-use link::{LinkFields, LinkLocator, MediaUri, Range};
+use link::{LinkFields, Range};
+use locator::DvbBinaryLocator;
 
 // The fields of a body's first four bytes.
 #[derive(Drop)]
@@ -32,14 +33,14 @@ fn head_of(a: u8, b: u8, c: u8, d: u8) -> Head
 }
 
 // The URI's range, of where it ends: without a URI that is before any could start.
-fn uri_to(base: u16, uri_end: usize) -> MediaUri
+fn uri_to(base: u16, uri_end: usize) -> Option<Range>
     requires { uri_end < 2 ^ 16 }
     ensures { result ≡ uri_to base uri_end }
 {
     if uri_end < LinkFields::URI_START {
-        return MediaUri::Absent;
+        return None;
     }
-    MediaUri::Present(Range {
+    Some(Range {
         start: ((base as usize) + LinkFields::URI_START) as u32,
         length: (uri_end - LinkFields::URI_START) as u32,
     })
@@ -75,7 +76,7 @@ pub(crate) fn fields_at(
     base: u16,
     reserved: u16,
     uri_end: usize,
-    locator: LinkLocator,
+    locator: Option<DvbBinaryLocator>,
     count_at: usize,
     tail: usize,
 ) -> LinkFields

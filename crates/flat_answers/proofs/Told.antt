@@ -3,28 +3,25 @@
 use Prim.Native.Nat.{ℕ}
 use mathlib.Core.Path.{◌≡◌, refl}
 use Rattle.wire.specs.declared.verdict.Refusal.{Refusal}
-use Rattle.wire.specs.declared.verdict.Verdict.TheVariants.{Fine, Refused}
 use Rattle.link.specs.Records.{no_fields}
 use Rattle.link.specs.declared.LinkItem.{LinkItem}
 use Rattle.link.specs.declared.LinkFields.{LinkFields}
-use Rattle.link.specs.declared.reading.LinkRead.{LinkRead}
-use Rattle.link.specs.declared.reading.ItemRead.TheVariants as item
-use Rattle.link.specs.declared.reading.ItemStep.TheVariants as step
-use Rattle.rct_entries.specs.declared.EntryRead.TheVariants as entry
 use Rattle.rnt.specs.declared.CridAuthority.{CridAuthority}
 use Rattle.rnt.specs.declared.ResolutionProvider.{ResolutionProvider}
-use Rattle.rnt_entries.specs.declared.ProviderFound.TheVariants as provider-at
-use Rattle.rnt_entries.specs.declared.AuthorityFound.TheVariants as authority-at
-use Rattle.rnt_providers.specs.declared.ProviderRead.TheVariants as provider
-use Rattle.rnt_providers.specs.declared.AuthorityRead.TheVariants as authority
-use Rattle.edit_answers.specs.declared.Edited.{Edited}
-use Rattle.rct_index.specs.declared.IndexBuilt.{IndexBuilt}
-use Rattle.rct_index.specs.declared.IndexEdited.{IndexEdited}
+use Rattle.rct_index.specs.Index.{no_index}
+use Rattle.rct_index.specs.declared.RctIndex.{RctIndex}
 use Rattle.flat_link.specs.Links.{fields_flat, link_flat}
 use Rattle.flat_refusal.specs.Refusals.{refusal_of}
 use Rattle.flat_answers.specs.Links.{link_answer, item_answer, step_answer, entry_answer}
 use Rattle.flat_answers.specs.Edits.{edit_answer, index_answer, index_edit_answer}
 use Rattle.flat_answers.specs.Providers.{provider_answer, provider_found_answer, authority_answer, authority_found_answer}
+use Rattle.link.specs.Answers.{got_step, link_got}
+use Rattle.rct_entries.specs.Entries.{got_entry}
+use Rattle.rnt_entries.specs.Entries.{found_authority}
+use Rattle.rnt_providers.specs.Providers.{got_provider}
+use Rattle.std.specs.Prelude.{Err, Ok, Result}
+use Rattle.wire.specs.Verdict.{Fine, verdict_of}
+use Rattle.link.specs.declared.LinkInfo.{LinkInfo}
 
 -- ---- zeros
 
@@ -56,7 +53,7 @@ zero-authority =
 
 -- ---- a verdict: number and figures as they are, or three zeros
 
-pub refused-told : (r : Refusal) → refusal_of (Refused r) ≡ r
+pub refused-told : (r : Refusal) → refusal_of (Err r) ≡ r
 unfolding refusal_of
 refused-told r = refl
 
@@ -66,79 +63,92 @@ fine-told = refl
 
 -- ---- answers that a verdict stands in: it, and each number under its name, whatever it is
 
-pub link-told : (k : LinkRead) → link_answer k ≡ record { refusal = refusal_of k.verdict; link = link_flat k.link }
-unfolding link_answer
-link-told k = refl
-
-pub edit-told : (e : Edited) → edit_answer e ≡ record { refusal = refusal_of e.verdict; total = e.total }
-unfolding edit_answer
-edit-told e = refl
-
-pub index-told : (b : IndexBuilt) → index_answer b ≡ record { refusal = refusal_of b.verdict; index = b.index }
-unfolding index_answer
-index-told b = refl
-
-pub index-edit-told : (e : IndexEdited) → index_edit_answer e ≡ record { refusal = refusal_of e.edited.verdict; total = e.edited.total; index = e.index }
-unfolding index_edit_answer
-index-edit-told e = refl
+pub link-told : (k : Result LinkInfo Refusal) → link_answer k ≡ record { refusal = refusal_of (verdict_of k); link = link_flat (link_got k) }
+unfolding link_answer refusal_of
+link-told (Ok k) = refl
+link-told (Err r) = refl
 
 -- ---- where the call did its work
 
-pub item-got : (i : LinkItem) → item_answer (item.Got i) ≡ record { refusal = no-refusal; item = i }
+pub item-got : (i : LinkItem) → item_answer (Ok i) ≡ record { refusal = no-refusal; item = i }
 unfolding item_answer
 item-got i = refl
 
-pub step-got : (i : LinkItem) (p : ℕ) → step_answer (step.Got i p) ≡ record { refusal = no-refusal; item = i; next = p }
+pub step-got : (i : LinkItem) (p : ℕ) → step_answer (got_step i p) ≡ record { refusal = no-refusal; item = i; next = p }
 unfolding step_answer
 step-got i p = refl
 
-pub entry-got : (f : LinkFields) (i p : ℕ) → entry_answer (entry.Got f i p) ≡ record { refusal = no-refusal; fields = fields_flat f; items_at = i; next = p }
+pub entry-got : (f : LinkFields) (i p : ℕ) → entry_answer (got_entry f i p) ≡ record { refusal = no-refusal; fields = fields_flat f; items_at = i; next = p }
 unfolding entry_answer
 entry-got f i p = refl
 
-pub provider-got : (p : ResolutionProvider) (n : ℕ) → provider_answer (provider.Got p n) ≡ record { refusal = no-refusal; provider = p; number_of_authorities = n }
+pub provider-got : (p : ResolutionProvider) (n : ℕ) → provider_answer (got_provider p n) ≡ record { refusal = no-refusal; provider = p; number_of_authorities = n }
 unfolding provider_answer
 provider-got p n = refl
 
-pub provider-at-got : (p : ResolutionProvider) → provider_found_answer (provider-at.Got p) ≡ record { refusal = no-refusal; provider = p }
+pub provider-at-got : (p : ResolutionProvider) → provider_found_answer (Ok p) ≡ record { refusal = no-refusal; provider = p }
 unfolding provider_found_answer
 provider-at-got p = refl
 
-pub authority-got : (a : CridAuthority) → authority_answer (authority.Got a) ≡ record { refusal = no-refusal; authority = a }
+pub authority-got : (a : CridAuthority) → authority_answer (Ok a) ≡ record { refusal = no-refusal; authority = a }
 unfolding authority_answer
 authority-got a = refl
 
-pub authority-at-got : (a : CridAuthority) (p : ℕ) → authority_found_answer (authority-at.Got a p) ≡ record { refusal = no-refusal; authority = a; next = p }
+pub authority-at-got : (a : CridAuthority) (p : ℕ) → authority_found_answer (found_authority a p) ≡ record { refusal = no-refusal; authority = a; next = p }
 unfolding authority_found_answer
 authority-at-got a p = refl
 
--- ---- where it refused; of an entry's fields flat_link has that they are zeros (`no_fields`)
+pub edit-got : (n : ℕ) → edit_answer (Ok n) ≡ record { refusal = no-refusal; total = n }
+unfolding edit_answer
+edit-got n = refl
+
+pub index-got : (i : RctIndex) → index_answer (Ok i) ≡ record { refusal = no-refusal; index = i }
+unfolding index_answer
+index-got i = refl
+
+pub index-edit-got : (n : ℕ) (i : RctIndex) → index_edit_answer (record { edited = Ok n; index = i }) ≡ record { refusal = no-refusal; total = n; index = i }
+unfolding index_edit_answer edit_answer
+index-edit-got n i = refl
+
+-- ---- where it refused: an index is as it was handed in; of an entry's fields flat_link has that they are zeros (`no_fields`)
 
 module _ (r : Refusal) where
-  pub item_refused : item_answer (item.Refused r) ≡ record { refusal = r; item = zero-item }
+  pub item_refused : item_answer (Err r) ≡ record { refusal = r; item = zero-item }
   unfolding item_answer
   item_refused = refl
 
-  pub step-refused : step_answer (step.Refused r) ≡ record { refusal = r; item = zero-item; next = 0 }
+  pub step-refused : step_answer (Err r) ≡ record { refusal = r; item = zero-item; next = 0 }
   unfolding step_answer
   step-refused = refl
 
-  pub entry-refused : entry_answer (entry.Refused r) ≡ record { refusal = r; fields = fields_flat no_fields; items_at = 0; next = 0 }
+  pub entry-refused : entry_answer (Err r) ≡ record { refusal = r; fields = fields_flat no_fields; items_at = 0; next = 0 }
   unfolding entry_answer
   entry-refused = refl
 
-  pub provider-refused : provider_answer (provider.Refused r) ≡ record { refusal = r; provider = zero-provider; number_of_authorities = 0 }
+  pub provider-refused : provider_answer (Err r) ≡ record { refusal = r; provider = zero-provider; number_of_authorities = 0 }
   unfolding provider_answer
   provider-refused = refl
 
-  pub provider-at-refused : provider_found_answer (provider-at.Refused r) ≡ record { refusal = r; provider = zero-provider }
+  pub provider-at-refused : provider_found_answer (Err r) ≡ record { refusal = r; provider = zero-provider }
   unfolding provider_found_answer
   provider-at-refused = refl
 
-  pub authority-refused : authority_answer (authority.Refused r) ≡ record { refusal = r; authority = zero-authority }
+  pub authority-refused : authority_answer (Err r) ≡ record { refusal = r; authority = zero-authority }
   unfolding authority_answer
   authority-refused = refl
 
-  pub authority-at-refused : authority_found_answer (authority-at.Refused r) ≡ record { refusal = r; authority = zero-authority; next = 0 }
+  pub authority-at-refused : authority_found_answer (Err r) ≡ record { refusal = r; authority = zero-authority; next = 0 }
   unfolding authority_found_answer
   authority-at-refused = refl
+
+  pub edit-refused : edit_answer (Err r) ≡ record { refusal = r; total = 0 }
+  unfolding edit_answer
+  edit-refused = refl
+
+  pub index-refused : index_answer (Err r) ≡ record { refusal = r; index = no_index }
+  unfolding index_answer
+  index-refused = refl
+
+  pub index-edit-refused : (i : RctIndex) → index_edit_answer (record { edited = Err r; index = i }) ≡ record { refusal = r; total = 0; index = i }
+  unfolding index_edit_answer edit_answer
+  index-edit-refused i = refl

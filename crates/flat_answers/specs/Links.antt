@@ -1,31 +1,31 @@
 -- Links and items as numbers.
 -- Assumes nothing.
-use Rattle.link.specs.Records.{no_item, no_fields}
-use Rattle.link.specs.declared.reading.LinkRead.{LinkRead}
-use Rattle.link.specs.declared.reading.ItemRead.{ItemRead}
-use Rattle.link.specs.declared.reading.ItemRead.TheVariants as item
-use Rattle.link.specs.declared.reading.ItemStep.{ItemStep}
-use Rattle.link.specs.declared.reading.ItemStep.TheVariants as step
-use Rattle.rct_entries.specs.declared.EntryRead.{EntryRead}
-use Rattle.rct_entries.specs.declared.EntryRead.TheVariants as entry
+use Rattle.link.specs.Records.{no_item, no_fields, no_link}
+use Rattle.link.specs.declared.LinkInfo.{LinkInfo}
 use Rattle.flat_link.specs.Links.{fields_flat, link_flat}
-use Rattle.flat_refusal.specs.Refusals.{no_refusal, refusal_of}
+use Rattle.flat_refusal.specs.Refusals.{no_refusal}
 use Rattle.flat_answers.specs.declared.links.LinkAnswer.{LinkAnswer}
 use Rattle.flat_answers.specs.declared.links.ItemAnswer.{ItemAnswer}
 use Rattle.flat_answers.specs.declared.links.StepAnswer.{StepAnswer}
 use Rattle.flat_answers.specs.declared.links.EntryAnswer.{EntryAnswer}
+use Rattle.link.specs.declared.LinkItem.{LinkItem}
+use Rattle.link.specs.declared.reading.ItemStep.{ItemStep}
+use Rattle.rct_entries.specs.declared.EntryRead.{EntryRead}
+use Rattle.std.specs.Prelude.{Err, Ok, Result}
+use Rattle.wire.specs.declared.verdict.Refusal.{Refusal}
 
-unfoldable pub link_answer : LinkRead → LinkAnswer
-link_answer r = record { refusal = refusal_of r.verdict; link = link_flat r.link }
+unfoldable pub link_answer : Result LinkInfo Refusal → LinkAnswer
+link_answer (Ok k) = record { refusal = no_refusal; link = link_flat k }
+link_answer (Err r) = record { refusal = r; link = link_flat no_link }
 
-unfoldable pub item_answer : ItemRead → ItemAnswer
-item_answer (item.Got i) = record { refusal = no_refusal; item = i }
-item_answer (item.Refused r) = record { refusal = r; item = no_item }
+unfoldable pub item_answer : Result LinkItem Refusal → ItemAnswer
+item_answer (Ok i) = record { refusal = no_refusal; item = i }
+item_answer (Err r) = record { refusal = r; item = no_item }
 
-unfoldable pub step_answer : ItemStep → StepAnswer
-step_answer (step.Got i p) = record { refusal = no_refusal; item = i; next = p }
-step_answer (step.Refused r) = record { refusal = r; item = no_item; next = 0 }
+unfoldable pub step_answer : Result ItemStep Refusal → StepAnswer
+step_answer (Ok got) = record { refusal = no_refusal; item = got.item; next = got.next }
+step_answer (Err r) = record { refusal = r; item = no_item; next = 0 }
 
-unfoldable pub entry_answer : EntryRead → EntryAnswer
-entry_answer (entry.Got f i p) = record { refusal = no_refusal; fields = fields_flat f; items_at = i; next = p }
-entry_answer (entry.Refused r) = record { refusal = r; fields = fields_flat no_fields; items_at = 0; next = 0 }
+unfoldable pub entry_answer : Result EntryRead Refusal → EntryAnswer
+entry_answer (Ok got) = record { refusal = no_refusal; fields = fields_flat got.fields; items_at = got.items_at; next = got.next }
+entry_answer (Err r) = record { refusal = r; fields = fields_flat no_fields; items_at = 0; next = 0 }

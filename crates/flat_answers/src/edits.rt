@@ -2,9 +2,8 @@
 ghost use Rattle.std.specs.Prelude.{◌≡◌};
 ghost use Rattle.flat_answers.specs.Edits.{edit_answer, index_answer, index_edit_answer};
 
-use edit_answers::Edited;
-use flat_refusal::refusal_of;
-use rct_index::{IndexBuilt, IndexEdited, RctIndex};
+use flat_refusal::fine;
+use rct_index::{IndexEdited, RctIndex};
 use wire::verdict::Refusal;
 
 // The total of the new section.
@@ -32,26 +31,32 @@ pub struct IndexEditAnswer {
 }
 
 impl EditAnswer {
-    pub fn of(edited: Edited) -> EditAnswer
+    pub fn of(edited: Result<usize, Refusal>) -> EditAnswer
         ensures { result ≡ edit_answer edited }
     {
-        let verdict = edited.verdict;
-        EditAnswer {
-            refusal: refusal_of(verdict),
-            total: edited.total,
+        match edited {
+            Ok(total) => EditAnswer {
+                refusal: fine(),
+                total,
+            },
+            Err(refusal) => EditAnswer { refusal, total: 0 },
         }
     }
 }
 
 impl IndexAnswer {
-    pub fn of(built: IndexBuilt) -> IndexAnswer
+    pub fn of(built: Result<RctIndex, Refusal>) -> IndexAnswer
         ensures { result ≡ index_answer built }
     {
-        let verdict = built.verdict;
-        let index = built.index;
-        IndexAnswer {
-            refusal: refusal_of(verdict),
-            index,
+        match built {
+            Ok(index) => IndexAnswer {
+                refusal: fine(),
+                index,
+            },
+            Err(r) => IndexAnswer {
+                refusal: r,
+                index: RctIndex::none(),
+            },
         }
     }
 }
@@ -60,11 +65,10 @@ impl IndexEditAnswer {
     pub fn of(edited: IndexEdited) -> IndexEditAnswer
         ensures { result ≡ index_edit_answer edited }
     {
-        let edit = edited.edited;
-        let verdict = edit.verdict;
         let index = edited.index;
+        let edit = EditAnswer::of(edited.edited);
         IndexEditAnswer {
-            refusal: refusal_of(verdict),
+            refusal: edit.refusal,
             total: edit.total,
             index,
         }

@@ -4,8 +4,8 @@ ghost use Rattle.flat_answers.specs.Links.{link_answer, item_answer, step_answer
 
 use flat_link::{FlatFields, FlatLink};
 use flat_refusal::{fine, refusal_of};
-use link::reading::{ItemRead, ItemStep, LinkRead};
-use link::{LinkFields, LinkItem};
+use link::reading::ItemStep;
+use link::{LinkFields, LinkInfo, LinkItem};
 use rct_entries::EntryRead;
 use wire::verdict::Refusal;
 
@@ -43,27 +43,32 @@ pub struct EntryAnswer {
 }
 
 impl LinkAnswer {
-    pub fn of(read: LinkRead) -> LinkAnswer
+    pub fn of(read: Result<LinkInfo, Refusal>) -> LinkAnswer
         ensures { result ≡ link_answer read }
     {
-        let verdict = read.verdict;
-        LinkAnswer {
-            refusal: refusal_of(verdict),
-            link: FlatLink::of(read.link),
+        match read {
+            Ok(link) => LinkAnswer {
+                refusal: fine(),
+                link: FlatLink::of(link),
+            },
+            Err(refusal) => LinkAnswer {
+                refusal,
+                link: FlatLink::of(LinkInfo::none()),
+            },
         }
     }
 }
 
 impl ItemAnswer {
-    pub fn of(read: ItemRead) -> ItemAnswer
+    pub fn of(read: Result<LinkItem, Refusal>) -> ItemAnswer
         ensures { result ≡ item_answer read }
     {
         match read {
-            ItemRead::Got(item) => ItemAnswer {
+            Ok(item) => ItemAnswer {
                 refusal: fine(),
                 item,
             },
-            ItemRead::Refused(refusal) => ItemAnswer {
+            Err(refusal) => ItemAnswer {
                 refusal,
                 item: LinkItem::none(),
             },
@@ -72,16 +77,16 @@ impl ItemAnswer {
 }
 
 impl StepAnswer {
-    pub fn of(read: ItemStep) -> StepAnswer
+    pub fn of(read: Result<ItemStep, Refusal>) -> StepAnswer
         ensures { result ≡ step_answer read }
     {
         match read {
-            ItemStep::Got { item, next } => StepAnswer {
+            Ok(ItemStep { item, next }) => StepAnswer {
                 refusal: fine(),
                 item,
                 next,
             },
-            ItemStep::Refused(refusal) => StepAnswer {
+            Err(refusal) => StepAnswer {
                 refusal,
                 item: LinkItem::none(),
                 next: 0,
@@ -92,15 +97,17 @@ impl StepAnswer {
 
 impl EntryAnswer {
     // Each arm returns, so that its answer is stored where the caller wants it and is not merged with the other's.
-    pub fn of(read: EntryRead) -> EntryAnswer
+    pub fn of(read: Result<EntryRead, Refusal>) -> EntryAnswer
         ensures { result ≡ entry_answer read }
     {
         match read {
-            EntryRead::Got {
-                fields,
-                items_at,
-                next,
-            } => {
+            Ok(
+                EntryRead {
+                    fields,
+                    items_at,
+                    next,
+                },
+            ) => {
                 return EntryAnswer {
                     refusal: fine(),
                     fields: FlatFields::of(fields),
@@ -108,7 +115,7 @@ impl EntryAnswer {
                     next,
                 };
             }
-            EntryRead::Refused(refusal) => {
+            Err(refusal) => {
                 return EntryAnswer {
                     refusal,
                     fields: FlatFields::of(LinkFields::none()),

@@ -4,8 +4,8 @@ ghost use Rattle.flat_answers.specs.Providers.{no_provider, no_authority, provid
 
 use flat_refusal::fine;
 use rnt::{CridAuthority, ResolutionProvider};
-use rnt_entries::{AuthorityFound, ProviderFound};
-use rnt_providers::{AuthorityRead, ProviderRead};
+use rnt_entries::AuthorityFound;
+use rnt_providers::ProviderRead;
 use spans::Span;
 use wire::verdict::Refusal;
 
@@ -78,19 +78,21 @@ fn no_authority() -> CridAuthority
 }
 
 impl ProviderAnswer {
-    pub fn of(read: ProviderRead) -> ProviderAnswer
+    pub fn of(read: Result<ProviderRead, Refusal>) -> ProviderAnswer
         ensures { result ≡ provider_answer read }
     {
         match read {
-            ProviderRead::Got {
-                provider,
-                number_of_authorities,
-            } => ProviderAnswer {
+            Ok(
+                ProviderRead {
+                    provider,
+                    number_of_authorities,
+                },
+            ) => ProviderAnswer {
                 refusal: fine(),
                 provider,
                 number_of_authorities,
             },
-            ProviderRead::Refused(refusal) => ProviderAnswer {
+            Err(refusal) => ProviderAnswer {
                 refusal,
                 provider: no_provider(),
                 number_of_authorities: 0,
@@ -100,15 +102,15 @@ impl ProviderAnswer {
 }
 
 impl ProviderFoundAnswer {
-    pub fn of(found: ProviderFound) -> ProviderFoundAnswer
+    pub fn of(found: Result<ResolutionProvider, Refusal>) -> ProviderFoundAnswer
         ensures { result ≡ provider_found_answer found }
     {
         match found {
-            ProviderFound::Got(provider) => ProviderFoundAnswer {
+            Ok(provider) => ProviderFoundAnswer {
                 refusal: fine(),
                 provider,
             },
-            ProviderFound::Refused(refusal) => ProviderFoundAnswer {
+            Err(refusal) => ProviderFoundAnswer {
                 refusal,
                 provider: no_provider(),
             },
@@ -117,15 +119,15 @@ impl ProviderFoundAnswer {
 }
 
 impl AuthorityAnswer {
-    pub fn of(read: AuthorityRead) -> AuthorityAnswer
+    pub fn of(read: Result<CridAuthority, Refusal>) -> AuthorityAnswer
         ensures { result ≡ authority_answer read }
     {
         match read {
-            AuthorityRead::Got(authority) => AuthorityAnswer {
+            Ok(authority) => AuthorityAnswer {
                 refusal: fine(),
                 authority,
             },
-            AuthorityRead::Refused(refusal) => AuthorityAnswer {
+            Err(refusal) => AuthorityAnswer {
                 refusal,
                 authority: no_authority(),
             },
@@ -134,16 +136,16 @@ impl AuthorityAnswer {
 }
 
 impl AuthorityFoundAnswer {
-    pub fn of(found: AuthorityFound) -> AuthorityFoundAnswer
+    pub fn of(found: Result<AuthorityFound, Refusal>) -> AuthorityFoundAnswer
         ensures { result ≡ authority_found_answer found }
     {
         match found {
-            AuthorityFound::Got { authority, next } => AuthorityFoundAnswer {
+            Ok(AuthorityFound { authority, next }) => AuthorityFoundAnswer {
                 refusal: fine(),
                 authority,
                 next,
             },
-            AuthorityFound::Refused(refusal) => AuthorityFoundAnswer {
+            Err(refusal) => AuthorityFoundAnswer {
                 refusal,
                 authority: no_authority(),
                 next: 0,

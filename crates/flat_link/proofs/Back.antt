@@ -6,24 +6,22 @@ use mathlib.Core.List.{List}
 use Rattle.wire.specs.Choice.{bit}
 use Rattle.link.specs.Syntax.{Link}
 use Rattle.link.specs.Records.{link_of}
-use Rattle.link.specs.declared.MediaUri.{MediaUri}
-use Rattle.link.specs.declared.MediaUri.TheVariants as uri
-use Rattle.link.specs.declared.LinkLocator.{LinkLocator}
-use Rattle.link.specs.declared.LinkLocator.TheVariants as place
 use Rattle.link.specs.declared.LinkFields.{LinkFields}
 use Rattle.link.specs.declared.LinkInfo.{LinkInfo}
 use Rattle.link_draft.specs.Checks.{uri_here, locator_here}
 use Rattle.flat_locator.proofs.Back.{flag-back, locator-back}
 use Rattle.flat_link.specs.Links.{uri_range, uri_of, place_flat, place_of, fields_flat, fields_of, link_flat, info_of}
 use Rattle.flat_link.specs.declared.FlatLink.{FlatLink}
+use Rattle.link.specs.Options.{LinkLocator, MediaUri}
+use Rattle.std.specs.Prelude.{None, Some}
 
 pub uri-back : (u : MediaUri) → uri_of (bit (uri_here u)) (uri_range u) ≡ u
-uri-back uri.Absent = refl
-uri-back (uri.Present r) = refl
+uri-back None = refl
+uri-back (Some r) = refl
 
 pub place-back : (p : LinkLocator) → place_of (bit (locator_here p)) (place_flat p) ≡ p
-place-back place.Absent = refl
-place-back (place.Present l) = ap place.Present (locator-back l)
+place-back None = refl
+place-back (Some l) = ap Some (locator-back l)
 
 pub fields_back : (k : LinkFields) → fields_of (fields_flat k) ≡ k
 unfolding fields_flat fields_of

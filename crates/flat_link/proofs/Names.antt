@@ -5,13 +5,12 @@ use Rattle.wire.specs.Choice.{bit}
 use Rattle.locator.specs.declared.DvbBinaryLocator.{DvbBinaryLocator}
 use Rattle.link.specs.Records.{no_range}
 use Rattle.link.specs.declared.Range.{Range}
-use Rattle.link.specs.declared.MediaUri.TheVariants as uri
-use Rattle.link.specs.declared.LinkLocator.TheVariants as place
 use Rattle.link.specs.declared.LinkFields.{LinkFields}
 use Rattle.link.specs.declared.LinkInfo.{LinkInfo}
 use Rattle.flat_locator.specs.Locators.{locator_flat}
 use Rattle.flat_link.specs.Links.{no_locator, fields_flat, link_flat}
 use Rattle.flat_link.specs.declared.FlatFields.{FlatFields}
+use Rattle.std.specs.Prelude.{None, Some}
 
 -- the numbers that are there in every link
 pub record FieldsNames (k : LinkFields) (f : FlatFields) : Type 0 where
@@ -48,20 +47,20 @@ fields-names k =
 
 -- a URI and a locator, where they are, and where they are not
 module _ (k : LinkFields) where
-  pub uri-present : (r : Range) → k.media_uri ≡ uri.Present r → ((fields_flat k).has_media_uri ≡ 1) × ((fields_flat k).media_uri ≡ r)
+  pub uri-present : (r : Range) → k.media_uri ≡ Some r → ((fields_flat k).has_media_uri ≡ 1) × ((fields_flat k).media_uri ≡ r)
   unfolding fields_flat
   uri-present r e = (rw e refl, rw e refl)
 
-  pub uri-absent : k.media_uri ≡ uri.Absent → ((fields_flat k).has_media_uri ≡ 0) × ((fields_flat k).media_uri ≡ no_range)
+  pub uri-absent : k.media_uri ≡ None → ((fields_flat k).has_media_uri ≡ 0) × ((fields_flat k).media_uri ≡ no_range)
   unfolding fields_flat
   uri-absent e = (rw e refl, rw e refl)
 
-  pub locator-present : (l : DvbBinaryLocator) → k.dvb_binary_locator ≡ place.Present l
+  pub locator-present : (l : DvbBinaryLocator) → k.dvb_binary_locator ≡ Some l
       → ((fields_flat k).has_dvb_binary_locator ≡ 1) × ((fields_flat k).dvb_binary_locator ≡ locator_flat l)
   unfolding fields_flat
   locator-present l e = (rw e refl, rw e refl)
 
-  pub locator-absent : k.dvb_binary_locator ≡ place.Absent
+  pub locator-absent : k.dvb_binary_locator ≡ None
       → ((fields_flat k).has_dvb_binary_locator ≡ 0) × ((fields_flat k).dvb_binary_locator ≡ locator_flat no_locator)
   unfolding fields_flat
   locator-absent e = (rw e refl, rw e refl)

@@ -1,18 +1,13 @@
 -- A link's record as numbers, and the record that numbers stand for.
 -- Assumes nothing.
-use Rattle.std.specs.Prelude.{ℕ, false}
+use Rattle.std.specs.Prelude.{ℕ, false, None, Some}
 use Rattle.wire.specs.Choice.{pick, bit}
 use Rattle.locator.specs.declared.DvbBinaryLocator.{DvbBinaryLocator}
 use Rattle.locator.specs.declared.DvbLocatorService.TheVariants.{Triplet}
-use Rattle.locator.specs.declared.DvbLocatorIdentifier.TheVariants.{None}
-use Rattle.locator.specs.declared.DvbLocatorWindows.TheVariants as windows
+use Rattle.locator.specs.declared.DvbLocatorIdentifier.TheVariants.{None as NoIdentifier}
 use Rattle.locator.specs.Syntax as syntax
 use Rattle.link.specs.Records.{no_range}
 use Rattle.link.specs.declared.Range.{Range}
-use Rattle.link.specs.declared.MediaUri.{MediaUri}
-use Rattle.link.specs.declared.MediaUri.TheVariants as uri
-use Rattle.link.specs.declared.LinkLocator.{LinkLocator}
-use Rattle.link.specs.declared.LinkLocator.TheVariants as place
 use Rattle.link.specs.declared.LinkFields.{LinkFields}
 use Rattle.link.specs.declared.LinkInfo.{LinkInfo}
 use Rattle.link_draft.specs.Checks.{uri_here, locator_here}
@@ -21,20 +16,21 @@ use Rattle.flat_locator.specs.Locators.{locator_flat, locator_of}
 use Rattle.flat_locator.specs.declared.FlatLocator.{FlatLocator}
 use Rattle.flat_link.specs.declared.FlatFields.{FlatFields}
 use Rattle.flat_link.specs.declared.FlatLink.{FlatLink}
+use Rattle.link.specs.Options.{LinkLocator, MediaUri}
 
 -- ---- the numbers
 
 abbrev pub uri_range : MediaUri → Range
-uri_range uri.Absent = no_range
-uri_range (uri.Present r) = r
+uri_range None = no_range
+uri_range (Some r) = r
 
 -- where there is no locator stand the numbers of one with zeros
 abbrev pub no_locator : DvbBinaryLocator
-no_locator = syntax.locator_of false 0 0 (Triplet 0) 0 0 None windows.Absent
+no_locator = syntax.locator_of false 0 0 (Triplet 0) 0 0 NoIdentifier None
 
 abbrev pub place_flat : LinkLocator → FlatLocator
-place_flat place.Absent = locator_flat no_locator
-place_flat (place.Present l) = locator_flat l
+place_flat None = locator_flat no_locator
+place_flat (Some l) = locator_flat l
 
 unfoldable pub fields_flat : LinkFields → FlatFields
 fields_flat k =
@@ -63,10 +59,10 @@ link_flat k = record { fields = fields_flat k.fields; items = k.items }
 -- ---- what numbers stand for
 
 abbrev pub uri_of : ℕ → Range → MediaUri
-uri_of n r = pick (is_set n) (uri.Present r) uri.Absent
+uri_of n r = pick (is_set n) (Some r) None
 
 abbrev pub place_of : ℕ → FlatLocator → LinkLocator
-place_of n f = pick (is_set n) (place.Present (locator_of f)) place.Absent
+place_of n f = pick (is_set n) (Some (locator_of f)) None
 
 unfoldable pub fields_of : FlatFields → LinkFields
 fields_of f =

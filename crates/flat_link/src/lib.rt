@@ -5,8 +5,8 @@ ghost use Rattle.std.specs.Prelude.{◌≡◌};
 ghost use Rattle.flat_link.specs.Links.{uri_range, uri_of, no_locator, place_flat, place_of, fields_flat, fields_of, link_flat, info_of};
 
 use flat_locator::{FlatLocator, is_set};
-use link::{LinkFields, LinkInfo, LinkItem, LinkLocator, MediaUri, Range};
-use locator::{DvbBinaryLocator, DvbLocatorIdentifier, DvbLocatorService, DvbLocatorWindows};
+use link::{LinkFields, LinkInfo, LinkItem, Range};
+use locator::{DvbBinaryLocator, DvbLocatorIdentifier, DvbLocatorService};
 
 // The fields of a link's record, all but the items themselves.
 #[repr(C)]
@@ -38,25 +38,25 @@ pub struct FlatLink {
     pub items: [LinkItem; LinkInfo::MOST_ITEMS],
 }
 
-fn uri_range(uri: MediaUri) -> Range
+fn uri_range(uri: Option<Range>) -> Range
     ensures { result ≡ uri_range uri }
 {
     match uri {
-        MediaUri::Absent => Range {
+        None => Range {
             start: 0,
             length: 0,
         },
-        MediaUri::Present(range) => range,
+        Some(range) => range,
     }
 }
 
-fn uri_of(present: u8, range: Range) -> MediaUri
+fn uri_of(present: u8, range: Range) -> Option<Range>
     ensures { result ≡ uri_of present range }
 {
     if is_set(present) {
-        return MediaUri::Present(range);
+        return Some(range);
     }
-    MediaUri::Absent
+    None
 }
 
 // A locator of zeros: what stands where there is none.
@@ -73,26 +73,26 @@ fn no_locator() -> DvbBinaryLocator
         0,
         0,
         DvbLocatorIdentifier::None,
-        DvbLocatorWindows::Absent,
+        None,
     )
 }
 
-fn place_flat(locator: LinkLocator) -> FlatLocator
+fn place_flat(locator: Option<DvbBinaryLocator>) -> FlatLocator
     ensures { result ≡ place_flat locator }
 {
     match locator {
-        LinkLocator::Absent => FlatLocator::of(no_locator()),
-        LinkLocator::Present(there) => FlatLocator::of(there),
+        None => FlatLocator::of(no_locator()),
+        Some(there) => FlatLocator::of(there),
     }
 }
 
-fn place_of(present: u8, locator: FlatLocator) -> LinkLocator
+fn place_of(present: u8, locator: FlatLocator) -> Option<DvbBinaryLocator>
     ensures { result ≡ place_of present locator }
 {
     if is_set(present) {
-        return LinkLocator::Present(locator.locator());
+        return Some(locator.locator());
     }
-    LinkLocator::Absent
+    None
 }
 
 impl FlatFields {

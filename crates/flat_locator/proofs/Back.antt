@@ -7,11 +7,11 @@ use Rattle.locator.specs.declared.DvbBinaryLocator.{DvbBinaryLocator}
 use Rattle.locator.specs.declared.DvbLocatorService.{DvbLocatorService}
 use Rattle.locator.specs.declared.DvbLocatorService.TheVariants.{Triplet, Full}
 use Rattle.locator.specs.declared.DvbLocatorIdentifier.{DvbLocatorIdentifier}
-use Rattle.locator.specs.declared.DvbLocatorIdentifier.TheVariants.{None, EventId, TvaIdEit, TvaIdPes}
-use Rattle.locator.specs.declared.DvbLocatorWindows.{DvbLocatorWindows}
-use Rattle.locator.specs.declared.DvbLocatorWindows.TheVariants.{Absent, Present}
+use Rattle.locator.specs.declared.DvbLocatorIdentifier.TheVariants.{None as NoIdentifier, EventId, TvaIdEit, TvaIdPes}
 use Rattle.flat_locator.specs.Flags.{is_set}
 use Rattle.flat_locator.specs.Locators.{service_flat, service_of, identifier_flat, identifier_of, windows_flat, windows_of, locator_flat, locator_of}
+use Rattle.locator.specs.Windows.{Windows}
+use Rattle.std.specs.Prelude.{None, Some}
 
 pub flag-back : (b : Bool) → is_set (bit b) ≡ b
 flag-back true = refl
@@ -22,14 +22,14 @@ service-back (Triplet t) = refl
 service-back (Full r ts on sv) = refl
 
 pub identifier-back : (i : DvbLocatorIdentifier) → identifier_of (identifier_flat i) ≡ i
-identifier-back None = refl
+identifier-back NoIdentifier = refl
 identifier-back (EventId e) = refl
 identifier-back (TvaIdEit t) = refl
 identifier-back (TvaIdPes t c) = refl
 
-pub windows-back : (w : DvbLocatorWindows) → windows_of (windows_flat w) ≡ w
-windows-back Absent = refl
-windows-back (Present e a) = refl
+pub windows-back : (w : Windows) → windows_of (windows_flat w) ≡ w
+windows-back None = refl
+windows-back (Some w) = refl
 
 pub locator-back : (l : DvbBinaryLocator) → locator_of (locator_flat l) ≡ l
 unfolding locator_flat locator_of

@@ -5,13 +5,14 @@ use mathlib.Core.Path.{◌≡◌, refl}
 use Rattle.wire.specs.Choice.{bit}
 use Rattle.locator.specs.declared.DvbBinaryLocator.{DvbBinaryLocator}
 use Rattle.locator.specs.declared.DvbLocatorService.TheVariants.{Triplet, Full}
-use Rattle.locator.specs.declared.DvbLocatorIdentifier.TheVariants.{None, EventId, TvaIdEit, TvaIdPes}
-use Rattle.locator.specs.declared.DvbLocatorWindows.TheVariants.{Absent, Present}
+use Rattle.locator.specs.declared.DvbLocatorIdentifier.TheVariants.{None as NoIdentifier, EventId, TvaIdEit, TvaIdPes}
 use Rattle.flat_locator.specs.Locators.{service_flat, identifier_flat, windows_flat, locator_flat}
 use Rattle.flat_locator.specs.declared.FlatService.{FlatService}
 use Rattle.flat_locator.specs.declared.FlatIdentifier.{FlatIdentifier}
 use Rattle.flat_locator.specs.declared.FlatWindows.{FlatWindows}
 use Rattle.flat_locator.specs.declared.FlatLocator.{FlatLocator}
+use Rattle.locator.specs.Windows.{some_windows}
+use Rattle.std.specs.Prelude.{None}
 
 pub record ServiceNames (i t r ts on sv : ℕ) (f : FlatService) : Type 0 where
   pub inline : f.inline_service ≡ i
@@ -32,7 +33,7 @@ pub record IdentifierNames (k n c : ℕ) (f : FlatIdentifier) : Type 0 where
   pub id : f.id ≡ n
   pub component : f.component ≡ c
 
-pub none-names : IdentifierNames 0 0 0 (identifier_flat None)
+pub none-names : IdentifierNames 0 0 0 (identifier_flat NoIdentifier)
 none-names = record { kind = refl; id = refl; component = refl }
 
 pub event-names : (e : ℕ) → IdentifierNames 1 e 0 (identifier_flat (EventId e))
@@ -49,10 +50,10 @@ pub record WindowsNames (p e a : ℕ) (f : FlatWindows) : Type 0 where
   pub early : f.early_start_window ≡ e
   pub late : f.late_end_window ≡ a
 
-pub absent-names : WindowsNames 0 0 0 (windows_flat Absent)
+pub absent-names : WindowsNames 0 0 0 (windows_flat None)
 absent-names = record { here = refl; early = refl; late = refl }
 
-pub present-names : (e a : ℕ) → WindowsNames 1 e a (windows_flat (Present e a))
+pub present-names : (e a : ℕ) → WindowsNames 1 e a (windows_flat (some_windows e a))
 present-names e a = record { here = refl; early = refl; late = refl }
 
 pub record LocatorNames (l : DvbBinaryLocator) (f : FlatLocator) : Type 0 where

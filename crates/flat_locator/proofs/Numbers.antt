@@ -5,7 +5,7 @@ use mathlib.Core.Path.{◌≡◌, refl}
 use mathlib.Core.Bool.{true, false}
 use native.Mathlib.Omega.{arith}
 use borrow.Author.Tests.{lt-ltb, ne_eqb}
-use Rattle.locator.specs.declared.DvbLocatorIdentifier.TheVariants.{None, EventId, TvaIdEit, TvaIdPes}
+use Rattle.locator.specs.declared.DvbLocatorIdentifier.TheVariants.{None as NoIdentifier, EventId, TvaIdEit, TvaIdPes}
 use Rattle.flat_locator.specs.Flags.{is_set}
 use Rattle.flat_locator.specs.Locators.{identifier_of}
 
@@ -20,7 +20,7 @@ others-are-yes n h = lt-ltb 0 n h
 -- ---- an identifier's type: 0, 1, 2, and every number above
 
 module _ (i c : ℕ) where
-  pub type-0 : identifier_of (record { identifier_type = 0; component = c; id = i }) ≡ None
+  pub type-0 : identifier_of (record { identifier_type = 0; component = c; id = i }) ≡ NoIdentifier
   type-0 = refl
 
   pub type-1 : identifier_of (record { identifier_type = 1; component = c; id = i }) ≡ EventId i

@@ -1,19 +1,18 @@
 -- A locator as numbers, and the locator that numbers stand for. What a kind does not have is 0.
 -- Assumes nothing.
-use Rattle.std.specs.Prelude.{ℕ, eqb}
+use Rattle.std.specs.Prelude.{ℕ, eqb, None, Some}
 use Rattle.wire.specs.Choice.{pick, bit}
 use Rattle.locator.specs.declared.DvbBinaryLocator.{DvbBinaryLocator}
 use Rattle.locator.specs.declared.DvbLocatorService.{DvbLocatorService}
 use Rattle.locator.specs.declared.DvbLocatorService.TheVariants.{Triplet, Full}
 use Rattle.locator.specs.declared.DvbLocatorIdentifier.{DvbLocatorIdentifier}
-use Rattle.locator.specs.declared.DvbLocatorIdentifier.TheVariants.{None, EventId, TvaIdEit, TvaIdPes}
-use Rattle.locator.specs.declared.DvbLocatorWindows.{DvbLocatorWindows}
-use Rattle.locator.specs.declared.DvbLocatorWindows.TheVariants.{Absent, Present}
+use Rattle.locator.specs.declared.DvbLocatorIdentifier.TheVariants.{None as NoIdentifier, EventId, TvaIdEit, TvaIdPes}
 use Rattle.flat_locator.specs.Flags.{is_set}
 use Rattle.flat_locator.specs.declared.FlatService.{FlatService}
 use Rattle.flat_locator.specs.declared.FlatIdentifier.{FlatIdentifier}
 use Rattle.flat_locator.specs.declared.FlatWindows.{FlatWindows}
 use Rattle.flat_locator.specs.declared.FlatLocator.{FlatLocator}
+use Rattle.locator.specs.Windows.{Windows, some_windows}
 
 -- ---- the numbers
 
@@ -36,7 +35,7 @@ abbrev pub identifier_numbers : ℕ → ℕ → ℕ → FlatIdentifier
 identifier_numbers k i c = record { identifier_type = k; component = c; id = i }
 
 abbrev pub identifier_flat : DvbLocatorIdentifier → FlatIdentifier
-identifier_flat None = identifier_numbers 0 0 0
+identifier_flat NoIdentifier = identifier_numbers 0 0 0
 identifier_flat (EventId e) = identifier_numbers 1 e 0
 identifier_flat (TvaIdEit t) = identifier_numbers 2 t 0
 identifier_flat (TvaIdPes t c) = identifier_numbers 3 t c
@@ -44,9 +43,9 @@ identifier_flat (TvaIdPes t c) = identifier_numbers 3 t c
 abbrev pub windows_numbers : ℕ → ℕ → ℕ → FlatWindows
 windows_numbers p e a = record { present = p; early_start_window = e; late_end_window = a }
 
-abbrev pub windows_flat : DvbLocatorWindows → FlatWindows
-windows_flat Absent = windows_numbers 0 0 0
-windows_flat (Present e a) = windows_numbers 1 e a
+abbrev pub windows_flat : Windows → FlatWindows
+windows_flat None = windows_numbers 0 0 0
+windows_flat (Some w) = windows_numbers 1 w.early_start_window w.late_end_window
 
 unfoldable pub locator_flat : DvbBinaryLocator → FlatLocator
 locator_flat l =
@@ -71,13 +70,13 @@ service_of f =
 
 abbrev pub identifier_of : FlatIdentifier → DvbLocatorIdentifier
 identifier_of f =
-    pick (eqb f.identifier_type 0) None
+    pick (eqb f.identifier_type 0) NoIdentifier
     (pick (eqb f.identifier_type 1) (EventId f.id)
     (pick (eqb f.identifier_type 2) (TvaIdEit f.id)
     (TvaIdPes f.id f.component)))
 
-abbrev pub windows_of : FlatWindows → DvbLocatorWindows
-windows_of f = pick (is_set f.present) (Present f.early_start_window f.late_end_window) Absent
+abbrev pub windows_of : FlatWindows → Windows
+windows_of f = pick (is_set f.present) (some_windows f.early_start_window f.late_end_window) None
 
 unfoldable pub locator_of : FlatLocator → DvbBinaryLocator
 locator_of f =

@@ -150,19 +150,21 @@ impl FlatIdentifier {
 }
 
 impl FlatWindows {
-    pub fn of(windows: DvbLocatorWindows) -> FlatWindows
+    pub fn of(windows: Option<DvbLocatorWindows>) -> FlatWindows
         ensures { result ≡ windows_flat windows }
     {
         match windows {
-            DvbLocatorWindows::Absent => FlatWindows {
+            None => FlatWindows {
                 present: 0,
                 early_start_window: 0,
                 late_end_window: 0,
             },
-            DvbLocatorWindows::Present {
-                early_start_window,
-                late_end_window,
-            } => FlatWindows {
+            Some(
+                DvbLocatorWindows {
+                    early_start_window,
+                    late_end_window,
+                },
+            ) => FlatWindows {
                 present: 1,
                 early_start_window,
                 late_end_window,
@@ -170,16 +172,16 @@ impl FlatWindows {
         }
     }
 
-    pub fn windows(self) -> DvbLocatorWindows
+    pub fn windows(self) -> Option<DvbLocatorWindows>
         ensures { result ≡ windows_of self }
     {
         if is_set(self.present) {
-            return DvbLocatorWindows::Present {
+            return Some(DvbLocatorWindows {
                 early_start_window: self.early_start_window,
                 late_end_window: self.late_end_window,
-            };
+            });
         }
-        DvbLocatorWindows::Absent
+        None
     }
 }
 

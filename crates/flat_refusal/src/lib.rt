@@ -4,7 +4,7 @@
 ghost use Rattle.std.specs.Prelude.{◌≡◌};
 ghost use Rattle.flat_refusal.specs.Refusals.{no_refusal, refusal_of};
 
-use wire::verdict::{Refusal, Verdict};
+use wire::verdict::Refusal;
 
 // No refusal: its number is on no list.
 pub fn fine() -> Refusal
@@ -17,11 +17,11 @@ pub fn fine() -> Refusal
     }
 }
 
-pub fn refusal_of(verdict: Verdict) -> Refusal
+pub fn refusal_of(verdict: Result<(), Refusal>) -> Refusal
     ensures { result ≡ refusal_of verdict }
 {
     match verdict {
-        Verdict::Fine => fine(),
-        Verdict::Refused(r) => r,
+        Ok(()) => fine(),
+        Err(r) => r,
     }
 }

@@ -6,12 +6,12 @@ use Rattle.wire.specs.declared.verdict.Refusal.{Refusal}
 use Rattle.section_header.specs.declared.SectionHeader.{SectionHeader}
 use Rattle.rct_reader.specs.declared.RctSection.{RctSection}
 use Rattle.rnt_reader.specs.declared.RntSection.{RntSection}
-use Rattle.rnt_reader.specs.declared.RntRead.TheVariants as resolution
-use Rattle.flat_refusal.specs.Refusals.{no_refusal, refusal_of}
-use Rattle.flat_sections.specs.Sections.{header_flat, rct_answer, no_resolution, rnt_numbers, rnt_answer}
+use Rattle.flat_refusal.specs.Refusals.{no_refusal}
+use Rattle.flat_sections.specs.Sections.{header_flat, no_related, rct_numbers, rct_answer, no_resolution, rnt_numbers, rnt_answer}
 use Rattle.flat_sections.specs.declared.FlatHeader.{FlatHeader}
 use Rattle.flat_sections.specs.declared.RctAnswer.{RctAnswer}
 use Rattle.flat_sections.specs.declared.RntAnswer.{RntAnswer}
+use Rattle.std.specs.Prelude.{Err, Ok}
 
 pub record HeaderNames (h : SectionHeader) (f : FlatHeader) : Type 0 where
   pub syntax : f.section_syntax_indicator ≡ bit h.section_syntax_indicator
@@ -39,8 +39,8 @@ header-names h =
       last = refl;
     }
 
-pub record RctNames (s : RctSection) (f : RctAnswer) : Type 0 where
-  pub refusal : f.refusal ≡ refusal_of s.verdict
+pub record RctNames (r : Refusal) (s : RctSection) (f : RctAnswer) : Type 0 where
+  pub refusal : f.refusal ≡ r
   pub total : f.total ≡ s.total
   pub header : f.header.section ≡ header_flat s.header.section
   pub year : f.header.year_offset ≡ s.header.year_offset
@@ -48,9 +48,18 @@ pub record RctNames (s : RctSection) (f : RctAnswer) : Type 0 where
   pub reserved : f.reserved_descriptor_loop_length ≡ s.reserved_descriptor_loop_length
   pub descriptors : f.descriptors ≡ s.descriptors
 
-pub rct-names : (s : RctSection) → RctNames s (rct_answer s)
+module _ (r : Refusal) (s : RctSection) where
+  rct-numbers : RctNames r s (rct_numbers r s)
+  unfolding rct_numbers
+  rct-numbers = record { refusal = refl; total = refl; header = refl; year = refl; links = refl; reserved = refl; descriptors = refl }
+
+pub rct-got : (s : RctSection) → RctNames no_refusal s (rct_answer (Ok s))
 unfolding rct_answer
-rct-names s = record { refusal = refl; total = refl; header = refl; year = refl; links = refl; reserved = refl; descriptors = refl }
+rct-got s = rct-numbers no_refusal s
+
+pub rct-refused : (r : Refusal) → RctNames r no_related (rct_answer (Err r))
+unfolding rct_answer
+rct-refused r = rct-numbers r no_related
 
 pub record RntNames (r : Refusal) (s : RntSection) (f : RntAnswer) : Type 0 where
   pub refusal : f.refusal ≡ r
@@ -66,10 +75,10 @@ module _ (r : Refusal) (s : RntSection) where
   unfolding rnt_numbers
   rnt-numbers = record { refusal = refl; total = refl; header = refl; context = refl; reserved = refl; common = refl; providers = refl }
 
-pub rnt-got : (s : RntSection) → RntNames no_refusal s (rnt_answer (resolution.Got s))
+pub rnt-got : (s : RntSection) → RntNames no_refusal s (rnt_answer (Ok s))
 unfolding rnt_answer
 rnt-got s = rnt-numbers no_refusal s
 
-pub rnt-refused : (r : Refusal) → RntNames r no_resolution (rnt_answer (resolution.Refused r))
+pub rnt-refused : (r : Refusal) → RntNames r no_resolution (rnt_answer (Err r))
 unfolding rnt_answer
 rnt-refused r = rnt-numbers r no_resolution

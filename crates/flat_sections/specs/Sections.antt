@@ -3,20 +3,20 @@
 use Rattle.wire.specs.Choice.{bit}
 use Rattle.spans.specs.Spans.{span}
 use Rattle.wire.specs.declared.verdict.Refusal.{Refusal}
+use Rattle.link.specs.Records.{no_range}
 use Rattle.section_header.specs.Reading.{no_header}
 use Rattle.section_header.specs.Syntax as syntax
 use Rattle.section_header.specs.declared.SectionHeader.{SectionHeader}
 use Rattle.rct.specs.declared.RctHeader.{RctHeader}
 use Rattle.rct_reader.specs.declared.RctSection.{RctSection}
 use Rattle.rnt_reader.specs.declared.RntSection.{RntSection}
-use Rattle.rnt_reader.specs.declared.RntRead.{RntRead}
-use Rattle.rnt_reader.specs.declared.RntRead.TheVariants as resolution
 use Rattle.flat_locator.specs.Flags.{is_set}
-use Rattle.flat_refusal.specs.Refusals.{no_refusal, refusal_of}
+use Rattle.flat_refusal.specs.Refusals.{no_refusal}
 use Rattle.flat_sections.specs.declared.FlatHeader.{FlatHeader}
 use Rattle.flat_sections.specs.declared.FlatRctHeader.{FlatRctHeader}
 use Rattle.flat_sections.specs.declared.RctAnswer.{RctAnswer}
 use Rattle.flat_sections.specs.declared.RntAnswer.{RntAnswer}
+use Rattle.std.specs.Prelude.{Err, Ok, Result}
 
 -- ---- headers
 
@@ -47,16 +47,30 @@ rct_header_of f = record { section = header_of f.section; year_offset = f.year_o
 
 -- ---- sections
 
-unfoldable pub rct_answer : RctSection → RctAnswer
-rct_answer s =
+abbrev pub no_related : RctSection
+no_related =
     record {
-      refusal = refusal_of s.verdict;
+      total = 0;
+      header = record { section = no_header; year_offset = 0 };
+      number_of_links = 0;
+      reserved_descriptor_loop_length = 0;
+      descriptors = no_range;
+    }
+
+unfoldable pub rct_numbers : Refusal → RctSection → RctAnswer
+rct_numbers r s =
+    record {
+      refusal = r;
       total = s.total;
       header = rct_header_flat s.header;
       number_of_links = s.number_of_links;
       reserved_descriptor_loop_length = s.reserved_descriptor_loop_length;
       descriptors = s.descriptors;
     }
+
+unfoldable pub rct_answer : Result RctSection Refusal → RctAnswer
+rct_answer (Ok s) = rct_numbers no_refusal s
+rct_answer (Err r) = rct_numbers r no_related
 
 abbrev pub no_resolution : RntSection
 no_resolution =
@@ -80,6 +94,6 @@ rnt_numbers r s =
       number_of_providers = s.number_of_providers;
     }
 
-unfoldable pub rnt_answer : RntRead → RntAnswer
-rnt_answer (resolution.Got s) = rnt_numbers no_refusal s
-rnt_answer (resolution.Refused r) = rnt_numbers r no_resolution
+unfoldable pub rnt_answer : Result RntSection Refusal → RntAnswer
+rnt_answer (Ok s) = rnt_numbers no_refusal s
+rnt_answer (Err r) = rnt_numbers r no_resolution

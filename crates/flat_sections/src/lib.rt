@@ -2,15 +2,15 @@
 #![tactic(auto)]
 
 ghost use Rattle.std.specs.Prelude.{◌≡◌};
-ghost use Rattle.flat_sections.specs.Sections.{header_flat, header_of, rct_header_flat, rct_header_of, rct_answer, no_resolution, rnt_numbers, rnt_answer};
+ghost use Rattle.flat_sections.specs.Sections.{header_flat, header_of, rct_header_flat, rct_header_of, no_related, rct_numbers, rct_answer, no_resolution, rnt_numbers, rnt_answer};
 
 use flat_locator::is_set;
-use flat_refusal::{fine, refusal_of};
+use flat_refusal::fine;
 use link::Range;
 use rct::RctHeader;
 use rct_reader::RctSection;
 use rnt::RntHeader;
-use rnt_reader::{RntRead, RntSection};
+use rnt_reader::RntSection;
 use section_header::SectionHeader;
 use spans::Span;
 use wire::verdict::Refusal;
@@ -116,20 +116,47 @@ impl FlatRctHeader {
     }
 }
 
+fn no_related() -> RctSection
+    ensures { result ≡ no_related }
+{
+    let section = SectionHeader::none();
+    RctSection {
+        total: 0,
+        header: RctHeader {
+            section,
+            year_offset: 0,
+        },
+        number_of_links: 0,
+        reserved_descriptor_loop_length: 0,
+        descriptors: Range {
+            start: 0,
+            length: 0,
+        },
+    }
+}
+
 impl RctAnswer {
-    pub fn of(read: RctSection) -> RctAnswer
-        ensures { result ≡ rct_answer read }
+    fn beside(refusal: Refusal, read: RctSection) -> RctAnswer
+        ensures { result ≡ rct_numbers refusal read }
     {
-        let verdict = read.verdict;
         let header = read.header;
         let descriptors = read.descriptors;
         RctAnswer {
-            refusal: refusal_of(verdict),
+            refusal,
             total: read.total,
             header: FlatRctHeader::of(header),
             number_of_links: read.number_of_links,
             reserved_descriptor_loop_length: read.reserved_descriptor_loop_length,
             descriptors,
+        }
+    }
+
+    pub fn of(read: Result<RctSection, Refusal>) -> RctAnswer
+        ensures { result ≡ rct_answer read }
+    {
+        match read {
+            Ok(section) => RctAnswer::beside(fine(), section),
+            Err(r) => RctAnswer::beside(r, no_related()),
         }
     }
 }
@@ -171,12 +198,12 @@ impl RntAnswer {
         }
     }
 
-    pub fn of(read: RntRead) -> RntAnswer
+    pub fn of(read: Result<RntSection, Refusal>) -> RntAnswer
         ensures { result ≡ rnt_answer read }
     {
         match read {
-            RntRead::Got(section) => RntAnswer::beside(fine(), section),
-            RntRead::Refused(r) => RntAnswer::beside(r, no_resolution()),
+            Ok(section) => RntAnswer::beside(fine(), section),
+            Err(r) => RntAnswer::beside(r, no_resolution()),
         }
     }
 }

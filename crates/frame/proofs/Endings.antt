@@ -8,8 +8,7 @@ use borrow.Author.Tests.{le-leb, lt-leb, ne_eqb}
 use Rattle.wire.specs.Numbers.{bytes32}
 use Rattle.wire.specs.Refusals.{wrong_crc}
 use Rattle.byte_stores.specs.Stores.{put_at}
-use Rattle.wire.specs.Verdict.{bad, refuse}
-use Rattle.wire.specs.declared.verdict.Verdict.TheVariants.{Fine}
+use Rattle.wire.specs.Verdict.{bad, refuse, Fine}
 use Rattle.wire.proofs.Verdicts.{pass-eqb, passed-eqb}
 use Rattle.wire.proofs.Words.{length-bytes32}
 use Rattle.byte_stores.proofs.Writing.{copied}

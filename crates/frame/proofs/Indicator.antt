@@ -8,8 +8,7 @@ use mathlib.Core.List.{List, [], ◌∷◌}
 use lib.ListN.{length, get_or}
 use borrow.Author.Tests.{not-true}
 use Rattle.wire.specs.Refusals.{no_syntax_indicator}
-use Rattle.wire.specs.Verdict.{bad}
-use Rattle.wire.specs.declared.verdict.Verdict.{Verdict}
+use Rattle.wire.specs.Verdict.{bad, Verdict}
 use Rattle.wire.proofs.Among.{listed, Never, row-never, never-then, never-past, never-behind}
 use Rattle.wire.proofs.Verdicts.{passed-ltb, passed-eqb, row-broken, row-says}
 use Rattle.section_header.specs.Reading.{syntax_indicator, header_at}

@@ -10,8 +10,7 @@ use native.Mathlib.Omega.{arith}
 use lib.ListN.{length, get_or}
 use Rattle.length_field.specs.Lengths.{longest}
 use Rattle.wire.specs.Refusals.{section_too_long}
-use Rattle.wire.specs.Verdict.{bad}
-use Rattle.wire.specs.declared.verdict.Verdict.{Verdict}
+use Rattle.wire.specs.Verdict.{bad, Verdict}
 use Rattle.wire.proofs.Among.{listed, Never, row-never, never-past}
 use Rattle.wire.proofs.Verdicts.{passed-ltb, passed-eqb, broken-ltb, due-passed, row-says}
 use Rattle.section_header.specs.Reading.{syntax_indicator, header_at}

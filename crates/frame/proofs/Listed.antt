@@ -11,9 +11,7 @@ use lib.ListN.{get_or}
 use Rattle.wire.specs.Choice.{pick}
 use Rattle.length_field.specs.Lengths.{longest}
 use Rattle.wire.specs.Refusals.{too_short, wrong_length, wrong_crc, section_too_long, no_syntax_indicator}
-use Rattle.wire.specs.Verdict.{bad, refuse}
-use Rattle.wire.specs.declared.verdict.Verdict.{Verdict}
-use Rattle.wire.specs.declared.verdict.Verdict.TheVariants.{Fine}
+use Rattle.wire.specs.Verdict.{bad, refuse, Fine, Verdict}
 use Rattle.wire.proofs.Among.{listed, all_listed, listed_here, listed-behind, Among, among-fine, among-row, among_then, among-more}
 use Rattle.wire.proofs.Verdicts.{pass-ltb, due-pass}
 use Rattle.section_header.specs.Reading.{syntax_indicator}

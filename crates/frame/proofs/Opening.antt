@@ -11,9 +11,7 @@ use borrow.Author.Tests.{lt-ltb, le-ltb, eq-eqb, ne_eqb}
 use lib.ListN.{length, get_or}
 use Rattle.wire.specs.Lists.{Bytes}
 use Rattle.length_field.specs.Lengths.{longest}
-use Rattle.wire.specs.Verdict.{bad, refuse, reached, ◌▷◌}
-use Rattle.wire.specs.declared.verdict.Verdict.TheVariants.{Fine}
-use Rattle.wire.specs.declared.verdict.Reached.TheVariants as reach
+use Rattle.wire.specs.Verdict.{bad, refuse, reached, ◌▷◌, Fine}
 use Rattle.length_field.proofs.Blocks.{length-short}
 use Rattle.wire.proofs.Verdicts.{then-fine, fine-then, fine-row, passed-ltb, passed-eqb, pass-ltb, pass-eqb, due-passed, due-pass, reached-at}
 use Rattle.wire.specs.Refusals.{too_short, wrong_length, section_too_long, no_syntax_indicator}
@@ -23,6 +21,7 @@ use Rattle.frame.specs.Reading.{declared, total_of, plain_demands, unindicated, 
 use Rattle.section_header.specs.declared.SectionHeader.{SectionHeader}
 use Rattle.frame.specs.declared.Table.{Table}
 use Rattle.frame.specs.declared.Demands.{Demands}
+use Rattle.std.specs.Prelude.{Ok}
 
 -- the bytes begin with a whole section of the table, with the indicator that the reading demands and a section_length that it takes
 pub record Opened (t : Table) (d : Demands) (xs : List ℕ) : Type 0 where
@@ -118,7 +117,7 @@ pub record OpenedAt (t : Table) (d : Demands) (xs : List ℕ) (n : ℕ) : Type 0
   pub within : n ≤ length xs
   pub short : n ≤ uncounted + longest
 
-pub opened-at : (t : Table) (d : Demands) (xs : List ℕ) (n : ℕ) → Bytes xs → reached (opened t d xs) (total_of xs) ≡ reach.At n → OpenedAt t d xs n
+pub opened-at : (t : Table) (d : Demands) (xs : List ℕ) (n : ℕ) → Bytes xs → reached (opened t d xs) (total_of xs) ≡ Ok n → OpenedAt t d xs n
 opened-at t d xs n b e =
     let g = reached-at _ _ _ e in
     let o = opened-fine t d xs g.0 in

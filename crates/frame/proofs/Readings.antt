@@ -9,10 +9,8 @@ use mathlib.Core.Bool.{true, false}
 use mathlib.Core.List.{List, [], ◌∷◌}
 use Rattle.length_field.specs.Lengths.{longest}
 use Rattle.wire.specs.Refusals.{wrong_crc}
-use Rattle.wire.specs.Verdict.{bad}
+use Rattle.wire.specs.Verdict.{bad, Fine, Verdict}
 use Rattle.wire.specs.declared.verdict.Refusal.{Refusal}
-use Rattle.wire.specs.declared.verdict.Verdict.{Verdict}
-use Rattle.wire.specs.declared.verdict.Verdict.TheVariants.{Fine, Refused}
 use Rattle.wire.proofs.Among.{listed, Never, row-never, never-behind}
 use Rattle.wire.proofs.Verdicts.{then-fine, fine-then, go_on, stop, refused-then}
 use Rattle.section_header.specs.Reading.{header_at}
@@ -23,10 +21,11 @@ use Rattle.frame.specs.declared.Table.{Table}
 use Rattle.frame.specs.declared.Demands.{Demands}
 use Rattle.frame.proofs.Opening.{Opened, opened-fine, fine-opened, plain-indicated}
 use Rattle.frame.proofs.Endings.{crc-room, crc-passed, crc-pass}
+use Rattle.std.specs.Prelude.{Err}
 
 module _ (t : Table) (rows : List ℕ → Verdict) where
   module _ (d : Demands) (xs : List ℕ) where
-    pub reading-closed : (r : Refusal) → opened t d xs ≡ Refused r → reading_by t rows d xs ≡ Refused r
+    pub reading-closed : (r : Refusal) → opened t d xs ≡ Err r → reading_by t rows d xs ≡ Err r
     unfolding reading_by
     reading-closed r v = refused-then _ _ r v
 
@@ -47,7 +46,7 @@ module _ (t : Table) (rows : List ℕ → Verdict) where
     reading-pass o v = fine-then _ _ (fine-opened t d xs o) v
 
   module _ (xs : List ℕ) where
-    pub checked-stop : (r : Refusal) → reading_by t rows checked_demands xs ≡ Refused r → checked_by t rows xs ≡ Refused r
+    pub checked-stop : (r : Refusal) → reading_by t rows checked_demands xs ≡ Err r → checked_by t rows xs ≡ Err r
     unfolding checked_by
     checked-stop r v = refused-then _ _ r v
 

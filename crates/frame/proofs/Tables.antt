@@ -12,8 +12,6 @@ use lib.Seq.{take_at, drop_at}
 use Rattle.wire.specs.Lists.{Bytes, part}
 use Rattle.wire.specs.Numbers.{bytes32, be32}
 use Rattle.length_field.specs.Lengths.{longest}
-use Rattle.wire.specs.declared.verdict.Verdict.{Verdict}
-use Rattle.wire.specs.declared.verdict.Verdict.TheVariants.{Fine}
 use Rattle.wire.proofs.Lists.{length_part}
 use Rattle.wire.proofs.Words.{length-bytes32, be32-back, be32-rebuild}
 use Rattle.crc.specs.Crc.{crc_of}
@@ -22,6 +20,7 @@ use Rattle.frame.specs.Reading.{payload_end, checked_demands, stored, computed, 
 use Rattle.frame.specs.declared.Table.{Table}
 use Rattle.frame.specs.declared.Demands.{Demands}
 use Rattle.frame.proofs.Readings.{reading-opened, checked-reading, checked-right, checked-pass}
+use Rattle.wire.specs.Verdict.{Fine, Verdict}
 
 module _ {S : Type 0} (t : Table) (rows : List ℕ → Verdict) (write : S → List ℕ) (read : List ℕ → S) (Fit : Demands → S → Type 0) where
   -- ---- the two laws

@@ -5,8 +5,7 @@ use Rattle.std.proofs.lemmas.List.Edits.{sets}
 use Rattle.wire.specs.Choice.{pick}
 use Rattle.wire.specs.Numbers.{bytes32}
 use Rattle.wire.specs.Refusals.{wrong_crc}
-use Rattle.wire.specs.Verdict.{bad}
-use Rattle.wire.specs.declared.verdict.Verdict.{Verdict}
+use Rattle.wire.specs.Verdict.{bad, Verdict}
 use Rattle.crc.specs.Crc.{crc_of}
 use Rattle.frame.specs.Syntax.{crc_length}
 use Rattle.frame.specs.Reading.{crc_row}

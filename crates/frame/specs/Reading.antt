@@ -4,8 +4,7 @@ use Rattle.std.specs.Prelude.{ℕ, ◌+◌, ◌-◌, Bool, true, false, not, ◌
 use Rattle.wire.specs.Numbers.{be32}
 use Rattle.length_field.specs.Lengths.{longest, length_of, length_at}
 use Rattle.wire.specs.Refusals.{too_short, wrong_length, wrong_crc, section_too_long, no_syntax_indicator}
-use Rattle.wire.specs.Verdict.{refuse, ◌▷◌}
-use Rattle.wire.specs.declared.verdict.Verdict.{Verdict}
+use Rattle.wire.specs.Verdict.{refuse, ◌▷◌, Verdict}
 use Rattle.crc.specs.Crc.{crc_of}
 use Rattle.section_header.specs.Reading.{syntax_indicator}
 use Rattle.frame.specs.Syntax.{uncounted, crc_length, limit, least}

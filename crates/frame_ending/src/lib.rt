@@ -7,11 +7,11 @@ ghost use Rattle.wire.specs.Verdict.{bad};
 ghost use Rattle.frame.specs.Ending.{crc_verdict, seal_at, seal_end};
 
 use frame::Table;
-use wire::verdict::{Refusal, Verdict};
+use wire::verdict::Refusal;
 
 // The CRC stored at `end` against that of the bytes before it: 20 (stored, computed), and 20 (0, 0) where there is no room
 // for one, which no reading asks.
-pub fn check_crc(s: &[u8], end: usize) -> Verdict
+pub fn check_crc(s: &[u8], end: usize) -> Result<(), Refusal>
     ensures { result ≡ crc_verdict s.now end }
 {
     if s.len() < Table::CRC_LENGTH {
@@ -25,13 +25,13 @@ pub fn check_crc(s: &[u8], end: usize) -> Verdict
     if stored != computed {
         return wrong(stored, computed);
     }
-    Verdict::Fine
+    Ok(())
 }
 
-fn wrong(stored: u32, computed: u32) -> Verdict
+fn wrong(stored: u32, computed: u32) -> Result<(), Refusal>
     ensures { result ≡ bad wrong_crc stored computed }
 {
-    Verdict::Refused(Refusal {
+    Err(Refusal {
         number: Refusal::WRONG_CRC,
         first: stored as usize,
         second: computed as usize,

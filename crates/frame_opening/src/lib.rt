@@ -7,7 +7,7 @@ ghost use Rattle.frame.specs.Reading.{total_of, unindicated, opened};
 
 use frame::{Demands, Table};
 use section_header::SectionHeader;
-use wire::verdict::{Reached, Refusal};
+use wire::verdict::Refusal;
 
 // The indicator is demanded, and byte 1 does not have it.
 fn unmet_by(demands: Demands, b1: u8) -> bool
@@ -19,10 +19,10 @@ fn unmet_by(demands: Demands, b1: u8) -> bool
     false
 }
 
-fn refused(number: u8, first: usize, second: usize) -> Reached
+fn refused(number: u8, first: usize, second: usize) -> Result<usize, Refusal>
     ensures { result ≡ reached (bad number first second) 0 }
 {
-    Reached::Refused(Refusal {
+    Err(Refusal {
         number,
         first,
         second,
@@ -30,7 +30,7 @@ fn refused(number: u8, first: usize, second: usize) -> Reached
 }
 
 // The place behind the section that `s` begins with, if it is a whole one of the table and as the reading demands.
-pub fn open(s: &[u8], t: Table, demands: Demands) -> Reached
+pub fn open(s: &[u8], t: Table, demands: Demands) -> Result<usize, Refusal>
     ensures { result ≡ reached (opened t demands s.now) (total_of s.now) }
 {
     let least = t.least();
@@ -57,5 +57,5 @@ pub fn open(s: &[u8], t: Table, demands: Demands) -> Reached
     if demands.most < length {
         return refused(Refusal::SECTION_TOO_LONG, length, demands.most);
     }
-    Reached::At(total)
+    Ok(total)
 }

@@ -6,14 +6,14 @@ ghost use Rattle.section_header.specs.Checks.{check_header};
 
 use field::Field;
 use section_header::SectionHeader;
-use wire::verdict::{Refusal, Verdict, first_of};
+use wire::verdict::{Refusal, first_of};
 
 // What is written has the syntax indicator: 38 (0, 0). Then 22 of ranks 20 to 22.
-pub fn check_header(header: SectionHeader) -> Verdict
+pub fn check_header(header: SectionHeader) -> Result<(), Refusal>
     ensures { result ≡ check_header header }
 {
     if !header.section_syntax_indicator {
-        return Verdict::Refused(Refusal {
+        return Err(Refusal {
             number: Refusal::NO_SYNTAX_INDICATOR,
             first: 0,
             second: 0,

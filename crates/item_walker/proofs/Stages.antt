@@ -6,25 +6,24 @@ use mathlib.Core.List.{List}
 use lib.ListN.{length}
 use borrow.Author.Tests.{lt-ltb, le-ltb}
 use Rattle.wire.specs.Refusals.{item_cut, text_cut}
-use Rattle.wire.specs.Verdict.{refuse, reached, ◌▷◌}
-use Rattle.wire.specs.declared.verdict.Verdict.TheVariants.{Fine}
-use Rattle.wire.specs.declared.verdict.Reached.TheVariants as reach
+use Rattle.wire.specs.Verdict.{refuse, reached, ◌▷◌, Fine}
 use Rattle.link.specs.Syntax.{item_head}
 use Rattle.link.specs.Reading.{item_end, item_place, item_verdict, items_verdict}
 use Rattle.link.proofs.Turns.{items-on, place-on}
+use Rattle.std.specs.Prelude.{Err, Ok}
 
 module _ (xs : List ℕ) where
   pub item-12 : (p : ℕ) → length xs < p + item_head
-      → reach.Refused (record { number = item_cut; first = p + item_head; second = length xs }) ≡ reached (item_verdict xs p) (item_end xs p)
+      → Err (record { number = item_cut; first = p + item_head; second = length xs }) ≡ reached (item_verdict xs p) (item_end xs p)
   unfolding item_verdict refuse ◌▷◌ reached
   item-12 p h = rw (lt-ltb _ _ h)
 
   pub item-13 : (p : ℕ) → p + item_head ≤ length xs → length xs < item_end xs p
-      → reach.Refused (record { number = text_cut; first = item_end xs p; second = length xs }) ≡ reached (item_verdict xs p) (item_end xs p)
+      → Err (record { number = text_cut; first = item_end xs p; second = length xs }) ≡ reached (item_verdict xs p) (item_end xs p)
   unfolding item_verdict refuse ◌▷◌ reached
   item-13 p h k = rw (le-ltb _ _ h, lt-ltb _ _ k)
 
-  pub item-past : (p : ℕ) → p + item_head ≤ length xs → item_end xs p ≤ length xs → reach.At (item_end xs p) ≡ reached (item_verdict xs p) (item_end xs p)
+  pub item-past : (p : ℕ) → p + item_head ≤ length xs → item_end xs p ≤ length xs → Ok (item_end xs p) ≡ reached (item_verdict xs p) (item_end xs p)
   unfolding item_verdict refuse ◌▷◌ reached
   item-past p h k = rw (le-ltb _ _ h, le-ltb _ _ k)
 

@@ -7,17 +7,17 @@ ghost use Rattle.wire.specs.Verdict.{reached};
 ghost use Rattle.link.specs.Reading.{item_end, item_place, item_verdict, items_verdict};
 
 use link::LinkItem;
-use wire::verdict::{Reached, Refusal};
+use wire::verdict::Refusal;
 
 // Over the item at `p`, a place from which a slice can be counted on.
-fn past(s: &[u8], p: usize) -> Reached
+fn past(s: &[u8], p: usize) -> Result<usize, Refusal>
     requires { p < 2 ^ 63 }
     ensures { result ≡ reached (item_verdict s.now p) (item_end s.now p) }
 {
     let have = s.len();
     let head = p + LinkItem::HEAD;
     if have < head {
-        return Reached::Refused(Refusal {
+        return Err(Refusal {
             number: Refusal::ITEM_CUT,
             first: head,
             second: have,
@@ -25,35 +25,29 @@ fn past(s: &[u8], p: usize) -> Reached
     }
     let end = head + wire::wide(s[p + LinkItem::LANGUAGE]);
     if have < end {
-        return Reached::Refused(Refusal {
+        return Err(Refusal {
             number: Refusal::TEXT_CUT,
             first: end,
             second: have,
         });
     }
-    Reached::At(end)
+    Ok(end)
 }
 
 // Over the item at `at`.
-pub fn past_item(s: &[u8], at: u32) -> Reached
+pub fn past_item(s: &[u8], at: u32) -> Result<usize, Refusal>
     ensures { result ≡ reached (item_verdict s.now at) (item_end s.now at) }
 {
     past(s, at as usize)
 }
 
 // Over `n` items, the first of which is at `at`.
-pub fn past_items(s: &[u8], at: u32, n: usize) -> Reached
+pub fn past_items(s: &[u8], at: u32, n: usize) -> Result<usize, Refusal>
     ensures { result ≡ reached (items_verdict n s.now at) (item_place n s.now at) }
 {
     let mut p = at as usize;
-    let mut left = n;
-    while 0 < left {
-        let step = past(s, p);
-        match step {
-            Reached::At(end) => p = end,
-            Reached::Refused(r) => return Reached::Refused(r),
-        }
-        left -= 1;
+    for _ in 0..n {
+        p = past(s, p)?;
     }
-    Reached::At(p)
+    Ok(p)
 }

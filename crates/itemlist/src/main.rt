@@ -5,7 +5,6 @@ use console::Short;
 use console::input::read_full;
 use console::print::{end_line, put_number, put_refusal, say};
 use length_field::LengthField;
-use link::reading::ItemRead;
 use link::{LangCode, LinkInfo, LinkItem};
 use std::io;
 
@@ -45,8 +44,8 @@ fn list(rt: &impl Print, body: &[u8]) -> io::Result<()> {
         let step = link_items::step_from(body, place);
         let item = step.item;
         match item {
-            ItemRead::Got(i) => put_item(rt, place, i)?,
-            ItemRead::Refused(r) => {
+            Ok(i) => put_item(rt, place, i)?,
+            Err(r) => {
                 put_refusal(rt, r)?;
                 return end_line(rt);
             }

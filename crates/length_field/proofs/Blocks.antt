@@ -9,11 +9,10 @@ use lib.ListN.{length, take, drop, get_or}
 use lib.Seq.{take-add, take_at}
 use Rattle.wire.specs.Lists.{Bytes, part}
 use Rattle.length_field.specs.Lengths.{longest, widest_beside, length_bytes, length_at, beside_at, Block, BlockFits, block_bytes, block_at, block_end, long_row, last_rows, block_rows, block_verdict, last_verdict}
-use Rattle.wire.specs.declared.verdict.Verdict.TheVariants.{Fine}
 use mathlib.Core.Bool.{Bool, true, false}
 use lib.Dec.{ltb}
 use borrow.Author.Tests.{lt-ltb, le-ltb, ltb-true, ltb-false}
-use Rattle.wire.specs.Verdict.{bad, refuse, ◌▷◌}
+use Rattle.wire.specs.Verdict.{bad, refuse, ◌▷◌, Fine}
 use Rattle.wire.proofs.Verdicts.{then-fine, fine-then, go_on, stop, passed-ltb, pass-ltb}
 use Rattle.wire.proofs.Lists.{bytes-at, bytes-part, bytes-append, length_part, two-part, at_drop, at-drop-first, drop_past}
 

@@ -4,8 +4,7 @@
 use Rattle.std.specs.Prelude.{ℕ, ◌+◌, ◌-◌, ◌*◌, ◌/◌, ◌%◌, ◌≤◌, ◌<◌, ltb, List, [], ◌∷◌, ◌++◌, length, get_or}
 use Rattle.wire.specs.Lists.{Bytes, part}
 use Rattle.wire.specs.Numbers.{word16}
-use Rattle.wire.specs.Verdict.{refuse, ◌▷◌}
-use Rattle.wire.specs.declared.verdict.Verdict.{Verdict}
+use Rattle.wire.specs.Verdict.{refuse, ◌▷◌, Verdict}
 use Rattle.length_field.specs.declared.LengthField.{LengthField}
 
 -- the widest number of 12 bits, and of four

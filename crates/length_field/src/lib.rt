@@ -4,7 +4,7 @@
 ghost use Rattle.std.specs.Prelude.{◌≡◌, ◌%◌, ◌+◌};
 ghost use Rattle.length_field.specs.Lengths.{length_field, length_bytes, longest, widest_beside, long_row, last_rows};
 
-use wire::verdict::{Refusal, Verdict};
+use wire::verdict::Refusal;
 
 #[derive(Clone, Copy)]
 pub struct LengthField {
@@ -42,25 +42,25 @@ impl LengthField {
     }
 
     // The declared length against the bytes that are left for it: `long` (declared, available) if there are too few.
-    pub fn check_left(self, left: usize, long: u8) -> Verdict
+    pub fn check_left(self, left: usize, long: u8) -> Result<(), Refusal>
         ensures { result ≡ long_row long self.length left }
     {
         if left < self.length {
-            return Verdict::Refused(Refusal {
+            return Err(Refusal {
                 number: long,
                 first: self.length,
                 second: left,
             });
         }
-        Verdict::Fine
+        Ok(())
     }
 
     // The same where nothing may follow: then `slack` (slack, 0) if there are too many.
-    pub fn check_last(self, left: usize, long: u8, slack: u8) -> Verdict
+    pub fn check_last(self, left: usize, long: u8, slack: u8) -> Result<(), Refusal>
         ensures { result ≡ last_rows long slack self.length left }
     {
         if self.length < left {
-            return Verdict::Refused(Refusal {
+            return Err(Refusal {
                 number: slack,
                 first: left - self.length,
                 second: 0,

@@ -13,17 +13,15 @@ use Rattle.wire.specs.Choice.{pick, bit}
 use Rattle.wire.specs.Lists.{part}
 use Rattle.field.specs.Fields.{low, icon_id}
 use Rattle.length_field.specs.Lengths.{Block, BlockFits, block_bytes, block_end, beside_at}
-use Rattle.wire.specs.Verdict.{refuse, ◌▷◌}
-use Rattle.wire.specs.declared.verdict.Verdict.TheVariants.{Fine}
+use Rattle.wire.specs.Verdict.{refuse, ◌▷◌, Fine}
 use Rattle.wire.proofs.Lists.{at-drop-first, drop_past}
 use Rattle.length_field.proofs.Blocks.{BlockRead, block_back, block-length, last-pass}
 use Rattle.wire.proofs.Verdicts.{fine-then, pass-ltb}
 use Rattle.locator.specs.Syntax.{locator_bytes, locator_length}
 use Rattle.locator.proofs.Back as locator
 use Rattle.locator.proofs.Sizes.{bytes-length}
-use Rattle.locator.specs.Reading.{read_locator}
+use Rattle.locator.specs.Reading.{read_locator, got_locator}
 use Rattle.locator.specs.declared.DvbBinaryLocator.{DvbBinaryLocator}
-use Rattle.locator.specs.declared.reading.LocatorRead.TheVariants as read
 use Rattle.link.specs.Syntax.{Link, LinkFits, LocatorFits, here, uri_due, locator_due, field_bytes, uri_bytes, locator_part, items_bytes, tail_of, link_body}
 use Rattle.link.specs.Reading.{type_at, type_reserved_at, how_related_at, term_id_at, group_id_at, precedence_at, uri_end_place, locator_said, locator_got, locator_used, count_place, item_count, items_reserved_at, item_place, tail_place, default_icon_at, icon_id_at, uri_verdict, locator_rows, count_verdict, items_verdict, front_verdict, rest_verdict, body_verdict, items_at, link_at}
 use Rattle.link.proofs.Items.{ItemsRead, items_back}
@@ -70,7 +68,7 @@ place-back true none xs p post h f d l = absurd (true≢false (sym h))
 place-back false (some m) xs p post h f d l = absurd (true≢false h)
 place-back false none xs p post h f d l = record { end = omega arith; same = refl; past = d; passed = refl }
 place-back true (some m) xs p post h f d l =
-    let e : read_locator (drop p xs) ≡ read.Got m (length (locator_bytes m)) = ap read_locator d ∙ locator.read_back m post f in
+    let e : read_locator (drop p xs) ≡ got_locator m (length (locator_bytes m)) = ap read_locator d ∙ locator.read_back m post f in
     record {
       end = rw e;
       same = rw e;

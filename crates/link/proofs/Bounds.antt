@@ -13,17 +13,13 @@ use Rattle.wire.specs.Lists.{Bytes}
 use Rattle.length_field.specs.Lengths.{block_end}
 use borrow.Author.Tests.{le-leb}
 use Rattle.wire.specs.Refusals.{uri_length_cut, uri_cut, no_locator, icon_cut, descriptors_too_long, link_slack, no_such_number}
-use Rattle.wire.specs.Verdict.{refuse, ◌▷◌}
+use Rattle.wire.specs.Verdict.{refuse, ◌▷◌, Fine, Verdict}
 use Rattle.wire.specs.declared.verdict.Refusal.{Refusal}
-use Rattle.wire.specs.declared.verdict.Verdict.{Verdict}
-use Rattle.wire.specs.declared.verdict.Verdict.TheVariants.{Fine, Refused}
 use Rattle.wire.proofs.Lists.{bytes-at}
 use Rattle.length_field.proofs.Blocks.{last-passed}
 use Rattle.wire.proofs.Verdicts.{then-fine, fine-then, passed-ltb, pass-ltb, passed-leb, pass-leb, go_on, refused-then}
-use Rattle.locator.specs.Reading.{read_locator}
+use Rattle.locator.specs.Reading.{read_locator, got_locator}
 use Rattle.locator.specs.declared.DvbBinaryLocator.{DvbBinaryLocator}
-use Rattle.locator.specs.declared.reading.LocatorRead.{LocatorRead}
-use Rattle.locator.specs.declared.reading.LocatorRead.TheVariants as read
 use Rattle.locator.proofs.Answers as locator
 use Rattle.locator.specs.Syntax.{longest_locator}
 use Rattle.locator.proofs.Sizes.{OneOf, lengths, used-eight}
@@ -34,9 +30,9 @@ use Rattle.link.specs.Records.{no_link, item_info}
 use Rattle.link.specs.Answers.{link_answer, item_rows, item_answer, item_read, item_row}
 use Rattle.link.specs.declared.LinkItem.{LinkItem}
 use Rattle.link.specs.declared.LinkInfo.{LinkInfo}
-use Rattle.link.specs.declared.reading.ItemRead.TheVariants as item
-use Rattle.link.specs.declared.reading.LinkRead.{LinkRead}
 use Rattle.link.proofs.Items.{item-passed}
+use Rattle.locator.specs.declared.reading.LocatorRead.{LocatorRead}
+use Rattle.std.specs.Prelude.{Err, Ok, Result}
 
 -- ---- what passed rows leave known: the places lie within
 
@@ -53,19 +49,19 @@ module _ (xs : List ℕ) where
       go true v = passed-ltb (length xs) end _ _ _ (then-fine _ _ v).1
       go false v = h
 
-  pub place-used : (l : DvbBinaryLocator) (n : ℕ) → locator_in xs ≡ read.Got l n → uri_end_place xs ≤ length xs → uri_end_place xs + n ≤ length xs
+  pub place-used : (l : DvbBinaryLocator) (n : ℕ) → locator_in xs ≡ got_locator l n → uri_end_place xs ≤ length xs → uri_end_place xs + n ≤ length xs
   place-used l n e h = omega (arith, locator.used_le (drop (uri_end_place xs) xs) l n e, length-drop (uri_end_place xs) xs)
 
   pub place-within : uri_end_place xs ≤ length xs → locator_rows xs ≡ Fine → count_place xs ≤ length xs
   unfolding locator_rows
   place-within h v = go (locator_due (type_at xs)) (locator_in xs) refl v
     where
-      go : (t : Bool) (a : LocatorRead) → locator_in xs ≡ a
+      go : (t : Bool) (a : Result LocatorRead Refusal) → locator_in xs ≡ a
           → pick t (refuse (ltb (length xs) (uri_end_place xs + 1)) no_locator (uri_end_place xs + 1) (length xs) ▷ locator_said a) Fine ≡ Fine
           → pick t (uri_end_place xs + locator_used a) (uri_end_place xs) ≤ length xs
       go false a e v = h
-      go true (read.Got l n) e v = place-used l n e h
-      go true (read.Refused r) e v = let z : ◌≡◌ {A = ℕ} 0 1 = (let q = (then-fine _ _ v).1 in cc) in absurd (omega arith)
+      go true (Ok got) e v = place-used got.locator got.used e h
+      go true (Err r) e v = let z : ◌≡◌ {A = ℕ} 0 1 = (let q = (then-fine _ _ v).1 in cc) in absurd (omega arith)
 
   pub front-within : front_verdict xs ≡ Fine → count_place xs < length xs
   unfolding front_verdict count_verdict
@@ -127,9 +123,9 @@ used-short xs = go (read_locator xs) refl
     one n (inr (inr (inr (inr (inr (inr (inr (inl e)))))))) = omega arith
     one n (inr (inr (inr (inr (inr (inr (inr (inr x8)))))))) = elim x8 [ ]
 
-    go : (a : LocatorRead) → read_locator xs ≡ a → locator_used a ≤ longest_locator
-    go (read.Refused r) e = omega arith
-    go (read.Got l n) e = one n (used-eight xs l n e)
+    go : (a : Result LocatorRead Refusal) → read_locator xs ≡ a → locator_used a ≤ longest_locator
+    go (Err r) e = omega arith
+    go (Ok got) e = one got.used (used-eight xs got.locator got.used e)
 
 count-short : (xs : List ℕ) → Bytes xs → count_place xs ≤ uri_start + uri_length.widest + longest_locator
 count-short xs b = go (locator_due (type_at xs))
@@ -174,9 +170,9 @@ rest-known xs v = let a = then-fine (items_verdict (item_count xs) xs (items_pla
 
 -- ---- the answer with a record
 
-pub answer-refused : (v : Verdict) (k : LinkInfo) (r : Refusal) (a : LinkRead) → a.verdict ≡ Refused r → a.link ≡ no_link → v ≡ Refused r → a ≡ link_answer v k
+pub answer-refused : (v : Verdict) (k : LinkInfo) (r : Refusal) → v ≡ Err r → Err r ≡ link_answer v k
 unfolding link_answer
-answer-refused v k r a e q w = rw w (λ i. record { verdict = e i; link = q i })
+answer-refused v k r w = rw w
 
 -- ---- an accepted body, and its items and parts
 
@@ -184,7 +180,7 @@ pub body-known : (xs : List ℕ) → body_verdict xs ≡ Fine → (front_verdict
 unfolding body_verdict
 body-known xs v = then-fine (front_verdict xs) (rest_verdict xs) v
 
-pub item-21 : (base : ℕ) (xs : List ℕ) (i : ℕ) → body_verdict xs ≡ Fine → item_count xs ≤ i → item.Refused (record { number = no_such_number; first = i; second = item_count xs }) ≡ item_read base xs i
+pub item-21 : (base : ℕ) (xs : List ℕ) (i : ℕ) → body_verdict xs ≡ Fine → item_count xs ≤ i → Err (record { number = no_such_number; first = i; second = item_count xs }) ≡ item_read base xs i
 unfolding item_read item_answer item_rows item_row refuse
 item-21 base xs i v h = rw (go_on (body_verdict xs) _ v, le-leb _ _ h)
 
@@ -192,30 +188,30 @@ rows-fine : (xs : List ℕ) (i : ℕ) → body_verdict xs ≡ Fine → i < item_
 unfolding item_rows item_row
 rows-fine xs i v h = fine-then _ _ v (pass-leb (item_count xs) i _ _ _ h)
 
-pub item-got : (base : ℕ) (xs : List ℕ) (i : ℕ) → body_verdict xs ≡ Fine → i < item_count xs → item.Got (item_info base xs (item_place i xs (items_place xs))) ≡ item_read base xs i
+pub item-got : (base : ℕ) (xs : List ℕ) (i : ℕ) → body_verdict xs ≡ Fine → i < item_count xs → Ok (item_info base xs (item_place i xs (items_place xs))) ≡ item_read base xs i
 unfolding item_read item_answer
 item-got base xs i v h = rw (rows-fine xs i v h)
 
-pub item-stop : (base : ℕ) (xs : List ℕ) (i : ℕ) (r : Refusal) → body_verdict xs ≡ Refused r → item.Refused r ≡ item_read base xs i
+pub item-stop : (base : ℕ) (xs : List ℕ) (i : ℕ) (r : Refusal) → body_verdict xs ≡ Err r → Err r ≡ item_read base xs i
 unfolding item_read item_answer item_rows
 item-stop base xs i r v = rw (refused-then (body_verdict xs) _ r v)
 
 -- what an answer says
-answer-got : (v : Verdict) (k l : LinkItem) → item_answer v k ≡ item.Got l → (v ≡ Fine) × (k ≡ l)
+answer-got : (v : Verdict) (k l : LinkItem) → item_answer v k ≡ Ok l → (v ≡ Fine) × (k ≡ l)
 unfolding item_answer
-answer-got Fine k l e = (refl, cc)
-answer-got (Refused r) k l e = let z : ◌≡◌ {A = ℕ} 0 1 = cc in absurd (omega arith)
+answer-got (Ok _) k l e = (refl, cc)
+answer-got (Err r) k l e = let z : ◌≡◌ {A = ℕ} 0 1 = cc in absurd (omega arith)
 
-answer-not : (v : Verdict) (k : LinkItem) (r : Refusal) → item_answer v k ≡ item.Refused r → v ≡ Refused r
+answer-not : (v : Verdict) (k : LinkItem) (r : Refusal) → item_answer v k ≡ Err r → v ≡ Err r
 unfolding item_answer
-answer-not Fine k r e = let z : ◌≡◌ {A = ℕ} 0 1 = cc in absurd (omega arith)
-answer-not (Refused q) k r e = cc
+answer-not (Ok _) k r e = let z : ◌≡◌ {A = ℕ} 0 1 = cc in absurd (omega arith)
+answer-not (Err q) k r e = cc
 
-pub item-had : (base : ℕ) (xs : List ℕ) (i : ℕ) (l : LinkItem) → item_read base xs i ≡ item.Got l → (item_rows xs i ≡ Fine) × (item_info base xs (item_place i xs (items_place xs)) ≡ l)
+pub item-had : (base : ℕ) (xs : List ℕ) (i : ℕ) (l : LinkItem) → item_read base xs i ≡ Ok l → (item_rows xs i ≡ Fine) × (item_info base xs (item_place i xs (items_place xs)) ≡ l)
 unfolding item_read
 item-had base xs i l e = answer-got (item_rows xs i) _ l e
 
-pub item-not : (base : ℕ) (xs : List ℕ) (i : ℕ) (r : Refusal) → item_read base xs i ≡ item.Refused r → item_rows xs i ≡ Refused r
+pub item-not : (base : ℕ) (xs : List ℕ) (i : ℕ) (r : Refusal) → item_read base xs i ≡ Err r → item_rows xs i ≡ Err r
 unfolding item_read
 item-not base xs i r e = answer-not (item_rows xs i) _ r e
 

@@ -12,18 +12,18 @@ use Rattle.wire.proofs.Lists.{part-part}
 use Rattle.wire.specs.Choice.{pick}
 use Rattle.wire.specs.Lists.{part}
 use Rattle.length_field.specs.Lengths.{length_at}
-use Rattle.wire.specs.declared.verdict.Verdict.TheVariants.{Fine}
 use Rattle.wire.proofs.Verdicts.{then-fine}
-use Rattle.locator.specs.declared.reading.LocatorRead.{LocatorRead}
-use Rattle.locator.specs.declared.reading.LocatorRead.TheVariants as read
 use Rattle.link.specs.Syntax.{uri_due, locator_due}
 use Rattle.link.specs.Reading.{type_at, uri_end_place, locator_in, locator_got, count_place, item_count, item_at, item_end, item_verdict, items_at, items_verdict, tail_place, body_verdict, link_at}
 use Rattle.link.specs.Records.{no_item, filled, item_info, item_infos, uri_info, locator_held, locator_info, fields_at, info_at, item_of, uri_of, locator_of, link_of}
 use Rattle.link.specs.declared.LinkItem.{LinkItem}
-use Rattle.link.specs.declared.LinkLocator.TheVariants as place
 use Rattle.link.proofs.Items.{item-passed}
 use Rattle.link.proofs.Filling.{length-infos}
 use Rattle.link.proofs.Bounds.{body-known, front-known, rest-known}
+use Rattle.locator.specs.declared.reading.LocatorRead.{LocatorRead}
+use Rattle.std.specs.Prelude.{Err, None, Ok, Result, Some}
+use Rattle.wire.specs.Verdict.{Fine}
+use Rattle.wire.specs.declared.verdict.Refusal.{Refusal}
 
 module _ (t : List ℕ) (base : ℕ) (xs : List ℕ) (e : part t base (length xs) ≡ xs) where
   there : (p m : ℕ) → p + m ≤ length xs → part t (base + p) m ≡ part xs p m
@@ -43,7 +43,7 @@ module _ (t : List ℕ) (base : ℕ) (xs : List ℕ) (e : part t base (length xs
   uri-image h = go (uri_due (type_at xs)) h
     where
       go : (b : Bool) → pick b (5 + get_or xs 4 0) 4 ≤ length xs
-          → uri_of t (pick b (Rattle.link.specs.declared.MediaUri.TheVariants.Present (record { start = base + 5; length = get_or xs 4 0 })) Rattle.link.specs.declared.MediaUri.TheVariants.Absent)
+          → uri_of t (pick b (Some (record { start = base + 5; length = get_or xs 4 0 })) None)
           ≡ pick b (some (part xs 5 (get_or xs 4 0))) none
       go true h = ap some (there 5 (get_or xs 4 0) h)
       go false h = refl
@@ -51,9 +51,9 @@ module _ (t : List ℕ) (base : ℕ) (xs : List ℕ) (e : part t base (length xs
   locator-image : locator_of (locator_info xs) ≡ pick (locator_due (type_at xs)) (locator_got (locator_in xs)) none
   locator-image = go (locator_due (type_at xs)) (locator_in xs)
     where
-      go : (b : Bool) (a : LocatorRead) → locator_of (pick b (locator_held a) place.Absent) ≡ pick b (locator_got a) none
-      go true (read.Got l n) = refl
-      go true (read.Refused r) = refl
+      go : (b : Bool) (a : Result LocatorRead Refusal) → locator_of (pick b (locator_held a) None) ≡ pick b (locator_got a) none
+      go true (Ok got) = refl
+      go true (Err r) = refl
       go false a = refl
 
   -- the whole record

@@ -7,11 +7,11 @@ use mathlib.Core.List.{List, [], ◌∷◌, ◌++◌, append_assoc, append-nil}
 use lib.ListN.{length, take, drop, get_or, length-append, length-drop}
 use lib.Seq.{take-add, take_at}
 use Rattle.wire.specs.Lists.{Bytes, part}
-use Rattle.wire.specs.declared.verdict.Verdict.TheVariants.{Fine}
 use Rattle.wire.proofs.Lists.{bytes-at, bytes-part, bytes-append, length_part, four-part, at_drop, at-drop-first, drop_past}
 use Rattle.wire.proofs.Verdicts.{then-fine, fine-then, passed-ltb, pass-ltb}
 use Rattle.link.specs.Syntax.{Item, ItemFits, ItemsFit, item_bytes, items_bytes}
 use Rattle.link.specs.Reading.{item_at, item_end, item_place, items_at, item_verdict, items_verdict}
+use Rattle.wire.specs.Verdict.{Fine}
 
 -- ---- one item
 

@@ -11,7 +11,6 @@ use lib.ListN.{length}
 use Rattle.wire.specs.Choice.{bit}
 use Rattle.wire.specs.Lists.{Bytes}
 use Rattle.length_field.specs.Lengths.{block_bytes, length_bytes}
-use Rattle.wire.specs.declared.verdict.Verdict.TheVariants.{Fine}
 use Rattle.wire.proofs.Lists.{bytes-append}
 use Rattle.length_field.proofs.Blocks.{length_bytes-bytes}
 use Rattle.locator.specs.declared.DvbBinaryLocator.{DvbBinaryLocator}
@@ -21,6 +20,7 @@ use Rattle.link.specs.Reading.{body_verdict, link_at}
 use Rattle.link.proofs.Items.{items-bytes}
 use Rattle.link.proofs.Back.{body-passed, body-read, tail-fits}
 use Rattle.link.proofs.Rebuild.{body-rebuilt, link_fits}
+use Rattle.wire.specs.Verdict.{Fine}
 
 -- the body of a fitting link is accepted, and reads as that link
 pub link-back : (l : Link) → LinkFits l → (body_verdict (link_body l) ≡ Fine) × (link_at l.length_reserved (link_body l) ≡ l)

@@ -8,20 +8,18 @@ use mathlib.Core.List.{List}
 use lib.ListN.{length, take, drop, get_or, length-take, length-drop}
 use lib.Seq.{take-add, take_all, drop_at, get_or-drop, length-take-le}
 use Rattle.wire.specs.Lists.{part}
-use Rattle.wire.specs.declared.verdict.Verdict.TheVariants.{Fine}
 use Rattle.link.specs.Syntax.{item_head, language_length}
 use Rattle.link.specs.Reading.{items_place, item_count, text_size, item_end, item_place, item_verdict, body_verdict}
 use Rattle.link.specs.Records.{item_info}
-use Rattle.link.specs.Answers.{item_in, item_read, fields_read, last_place, told, step_answer, item_from}
+use Rattle.link.specs.Answers.{item_in, item_read, fields_read, last_place, told, step_answer, item_from, got_fields, got_step}
 use Rattle.link.specs.declared.LinkFields.{LinkFields}
 use Rattle.link.specs.declared.LinkItem.{LinkItem}
-use Rattle.link.specs.declared.reading.FieldsRead.TheVariants as fields
-use Rattle.link.specs.declared.reading.ItemRead.TheVariants as item
-use Rattle.link.specs.declared.reading.ItemStep.TheVariants as step
 use Rattle.link.proofs.Items.{item-pass}
 use Rattle.link.proofs.Filling.{place-snoc}
 use Rattle.link.proofs.Bounds.{body-known, front-known, rest-known, item-within, item-got}
 use Rattle.link.proofs.Answers.{fields_had}
+use Rattle.std.specs.Prelude.{Ok}
+use Rattle.wire.specs.Verdict.{Fine}
 
 -- all of a slice that ranges can tell
 pub told-all : (xs : List ℕ) → length xs ≤ last_place → told xs ≡ xs
@@ -35,8 +33,8 @@ place_from base xs i = base + item_place i xs (items_place xs)
 -- item i, asked for by its number in the body, and by its place in the slice: the answer there has the place of the next one
 pub record Listed (ys xs : List ℕ) (base i : ℕ) : Type 0 where
   pub here : LinkItem
-  pub numbered : item_read base xs i ≡ item.Got here
-  pub placed : item_from ys (place_from base xs i) ≡ step.Got here (place_from base xs (i + 1))
+  pub numbered : item_read base xs i ≡ Ok here
+  pub placed : item_from ys (place_from base xs i) ≡ got_step here (place_from base xs (i + 1))
 
 -- the body xs is what the slice ys has from base on
 module _ (ys xs : List ℕ) (base : ℕ) (e : drop base ys ≡ xs) (h : base ≤ length ys) where
@@ -85,5 +83,5 @@ listed_in s base n i h l v k =
     listed (take (base + n) s) (part s base n) base (up_to s base n h) (omega arith) i (omega arith) v k
 
 -- the first place is the one that is answered with a link's fields
-pub first-place : (base r : ℕ) (xs : List ℕ) (k : LinkFields) (p : ℕ) → fields_read base r xs ≡ fields.Got k p → p ≡ place_from base xs 0
+pub first-place : (base r : ℕ) (xs : List ℕ) (k : LinkFields) (p : ℕ) → fields_read base r xs ≡ got_fields k p → p ≡ place_from base xs 0
 first-place base r xs k p e = (fields_had base r xs k p e).place

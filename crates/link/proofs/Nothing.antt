@@ -9,10 +9,8 @@ use lib.ListN.{replicate}
 use borrow.Author.Tests.{le-leb}
 use Rattle.wire.specs.Choice.{pick}
 use Rattle.wire.specs.Refusals.{no_such_number}
-use Rattle.wire.specs.Verdict.{is_fine, refuse, ◌▷◌}
+use Rattle.wire.specs.Verdict.{is_fine, refuse, ◌▷◌, Verdict}
 use Rattle.wire.specs.declared.verdict.Refusal.{Refusal}
-use Rattle.wire.specs.declared.verdict.Verdict.{Verdict}
-use Rattle.wire.specs.declared.verdict.Verdict.TheVariants.{Fine, Refused}
 use Rattle.spans.specs.declared.Span.{Span}
 use Rattle.link.specs.Syntax.{uri_due}
 use Rattle.link.specs.Reading.{type_at, items_place, item_count, item_place, body_verdict}
@@ -21,8 +19,7 @@ use Rattle.link.specs.Answers.{item_row, item_rows}
 use Rattle.link.specs.Parts.{uri_span, text_at, text_span, descriptor_span}
 use Rattle.link.specs.declared.LinkFields.{LinkFields}
 use Rattle.link.specs.declared.LinkItem.{LinkItem}
-use Rattle.link.specs.declared.MediaUri.TheVariants as uri
-use Rattle.link.specs.declared.LinkLocator.TheVariants as locator
+use Rattle.std.specs.Prelude.{Err, None, Ok}
 
 abbrev zero_item : LinkItem
 zero_item = record { language_code = record { first = 0; second = 0; third = 0 }; promotional_text = record { start = 0; length = 0 } }
@@ -37,8 +34,8 @@ zero_fields =
       term_id = 0;
       group_id = 0;
       precedence = 0;
-      media_uri = uri.Absent;
-      dvb_binary_locator = locator.Absent;
+      media_uri = None;
+      dvb_binary_locator = None;
       reserved_number_items = 0;
       number_items = 0;
       default_icon_flag = false;
@@ -61,7 +58,7 @@ nowhere = record { start = 0; length = 0 }
 
 module _ (xs : List ℕ) where
   -- of a body that is refused
-  module _ (r : Refusal) (v : body_verdict xs ≡ Refused r) where
+  module _ (r : Refusal) (v : body_verdict xs ≡ Err r) where
     pub no-uri-refused : uri_span xs ≡ nowhere
     unfolding uri_span
     no-uri-refused = rw v
@@ -80,14 +77,14 @@ module _ (xs : List ℕ) where
   no-uri e = rw e (go (body_verdict xs))
     where
       go : (v : Verdict) → pick (is_fine v) nowhere nowhere ≡ nowhere
-      go Fine = refl
-      go (Refused r) = refl
+      go (Ok _) = refl
+      go (Err r) = refl
 
   -- of an item that is not there
   pub no_text : (i : ℕ) → item_count xs ≤ i → text_span xs i ≡ nowhere
   unfolding text_span item_rows item_row refuse ◌▷◌
   no_text i h = rw (le-leb _ _ h) (go (body_verdict xs))
     where
-      go : (v : Verdict) → pick (is_fine (v ▷ Refused (record { number = no_such_number; first = i; second = item_count xs }))) (text_at xs (item_place i xs (items_place xs))) nowhere ≡ nowhere
-      go Fine = refl
-      go (Refused r) = refl
+      go : (v : Verdict) → pick (is_fine (v ▷ Err (record { number = no_such_number; first = i; second = item_count xs }))) (text_at xs (item_place i xs (items_place xs))) nowhere ≡ nowhere
+      go (Ok _) = refl
+      go (Err r) = refl

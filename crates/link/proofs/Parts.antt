@@ -11,19 +11,17 @@ use lib.ListN.{length, get_or}
 use Rattle.wire.specs.Choice.{pick}
 use Rattle.length_field.specs.Lengths.{length_at}
 use Rattle.spans.specs.Spans.{span}
-use Rattle.wire.specs.Verdict.{is_fine}
+use Rattle.wire.specs.Verdict.{is_fine, Fine, Verdict}
 use Rattle.spans.specs.declared.Span.{Span}
 use Rattle.wire.specs.declared.verdict.Refusal.{Refusal}
-use Rattle.wire.specs.declared.verdict.Verdict.{Verdict}
-use Rattle.wire.specs.declared.verdict.Verdict.TheVariants.{Fine, Refused}
 use Rattle.link.specs.Syntax.{head_length, uri_due}
 use Rattle.link.specs.Reading.{type_at, uri_start, uri_end_place, items_place, item_place, tail_place, body_verdict}
 use Rattle.link.specs.Answers.{item_rows, item_read}
 use Rattle.link.specs.Parts.{uri_span, text_at, text_span, descriptor_span}
 use Rattle.link.specs.declared.LinkItem.{LinkItem}
-use Rattle.link.specs.declared.reading.ItemRead.TheVariants as item
 use Rattle.link.proofs.Bounds.{body-known, front-known, rest-known, item-had, item-not, text-within}
 use Rattle.link.proofs.Nothing.{no-uri}
+use Rattle.std.specs.Prelude.{Err, Ok}
 
 -- ends within xs
 abbrev pub Inside : List ℕ → Span → Type 0
@@ -31,8 +29,8 @@ Inside xs s = s.start + s.length ≤ length xs
 
 -- by the verdict: what is there where it is fine, and else the empty part
 either : (xs : List ℕ) (v : Verdict) (s : Span) → (v ≡ Fine → Inside xs s) → Inside xs (pick (is_fine v) s (span 0 0))
-either xs Fine s f = f refl
-either xs (Refused r) s f = omega arith
+either xs (Ok _) s f = f refl
+either xs (Err r) s f = omega arith
 
 module _ (xs : List ℕ) where
   -- ---- the URI: it is there exactly if it ends where one can start, or behind that
@@ -68,11 +66,11 @@ module _ (xs : List ℕ) where
 
   -- ---- a text: the range of its item, counted from the body
 
-  pub text-got : (i : ℕ) (l : LinkItem) → item_read 0 xs i ≡ item.Got l → span l.promotional_text.start l.promotional_text.length ≡ text_span xs i
+  pub text-got : (i : ℕ) (l : LinkItem) → item_read 0 xs i ≡ Ok l → span l.promotional_text.start l.promotional_text.length ≡ text_span xs i
   unfolding text_span
   text-got i l e = let g = item-had 0 xs i l e in rw (← g.1) (rw (g.0, zero-add))
 
-  pub text-not : (i : ℕ) (r : Refusal) → item_read 0 xs i ≡ item.Refused r → span 0 0 ≡ text_span xs i
+  pub text-not : (i : ℕ) (r : Refusal) → item_read 0 xs i ≡ Err r → span 0 0 ≡ text_span xs i
   unfolding text_span
   text-not i r e = rw (item-not 0 xs i r e)
 

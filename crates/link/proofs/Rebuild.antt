@@ -15,19 +15,18 @@ use Rattle.wire.specs.Choice.{pick, bit}
 use Rattle.wire.specs.Lists.{Bytes, part}
 use Rattle.field.specs.Fields.{low, icon_id}
 use Rattle.length_field.specs.Lengths.{block_bytes, block_end, beside_at}
-use Rattle.wire.specs.Verdict.{refuse, ◌▷◌}
-use Rattle.wire.specs.declared.verdict.Verdict.{Verdict}
-use Rattle.wire.specs.declared.verdict.Verdict.TheVariants.{Fine, Refused}
+use Rattle.wire.specs.Verdict.{refuse, ◌▷◌, Fine, Verdict}
 use Rattle.wire.proofs.Lists.{bytes-at, bytes-part, bytes_drop, length_part, firsts-part}
 use Rattle.length_field.proofs.Blocks.{block-rebuild, block-fits, beside-narrow, last-passed}
 use Rattle.wire.proofs.Verdicts.{then-fine, passed-ltb}
 use Rattle.locator.specs.Reading.{read_locator}
 use Rattle.locator.proofs.Rebuild as locator
-use Rattle.locator.specs.declared.reading.LocatorRead.{LocatorRead}
-use Rattle.locator.specs.declared.reading.LocatorRead.TheVariants as read
 use Rattle.link.specs.Syntax.{LinkFits, UriFits, LocatorFits, here, uri_due, locator_due, field_bytes, uri_bytes, locator_part, items_bytes, tail_of, link_body}
 use Rattle.link.specs.Reading.{type_at, type_reserved_at, how_related_at, term_id_at, group_id_at, precedence_at, uri_end_place, locator_said, locator_got, locator_used, locator_in, count_place, item_count, items_reserved_at, tail_place, uri_verdict, locator_rows, count_verdict, items_verdict, front_verdict, rest_verdict, body_verdict, items_at, link_at}
 use Rattle.link.proofs.Items.{items-rebuild, ItemsRebuilt, length-items_at}
+use Rattle.locator.specs.declared.reading.LocatorRead.{LocatorRead}
+use Rattle.std.specs.Prelude.{Err, Ok, Result}
+use Rattle.wire.specs.declared.verdict.Refusal.{Refusal}
 
 -- ---- the rows that are passed
 
@@ -88,24 +87,24 @@ uri-rebuild true xs b h v =
 
 -- ---- the locator
 
-record PlaceRebuilt (t : Bool) (a : LocatorRead) (xs : List ℕ) (p : ℕ) : Type 0 where
+record PlaceRebuilt (t : Bool) (a : Result LocatorRead Refusal) (xs : List ℕ) (p : ℕ) : Type 0 where
   up : p ≤ pick t (p + locator_used a) p
   within : pick t (p + locator_used a) p ≤ length xs
   same : take p xs ++ locator_part (pick t (locator_got a) none) ≡ take (pick t (p + locator_used a) p) xs
   fits : LocatorFits (pick t (locator_got a) none)
   there : here (pick t (locator_got a) none) ≡ t
 
-place-rebuild : (t : Bool) (a : LocatorRead) (xs : List ℕ) (p : ℕ) (w : Verdict) → Bytes xs → p ≤ length xs → read_locator (drop p xs) ≡ a
+place-rebuild : (t : Bool) (a : Result LocatorRead Refusal) (xs : List ℕ) (p : ℕ) (w : Verdict) → Bytes xs → p ≤ length xs → read_locator (drop p xs) ≡ a
     → pick t (w ▷ locator_said a) Fine ≡ Fine → PlaceRebuilt t a xs p
 unfolding locator_part
 place-rebuild false a xs p w b h e v = record { up = omega arith; within = h; same = append-nil (take p xs); fits = tt; there = refl }
-place-rebuild true (read.Refused r) xs p w b h e v = let z : ◌≡◌ {A = ℕ} 0 1 = (let q = (then-fine w _ v).1 in cc) in absurd (omega arith)
-place-rebuild true (read.Got l n) xs p w b h e v =
-    let g = locator.rebuild (drop p xs) l n (bytes_drop p xs b) e in
+place-rebuild true (Err r) xs p w b h e v = let z : ◌≡◌ {A = ℕ} 0 1 = (let q = (then-fine w _ v).1 in cc) in absurd (omega arith)
+place-rebuild true (Ok got) xs p w b h e v =
+    let g = locator.rebuild (drop p xs) got.locator got.used (bytes_drop p xs b) e in
     record {
       up = omega arith;
       within = omega (arith, g.there, length-drop p xs);
-      same = rw (← g.same) (sym (take-add p n xs));
+      same = rw (← g.same) (sym (take-add p got.used xs));
       fits = g.fits;
       there = refl;
     }

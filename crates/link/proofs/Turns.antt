@@ -5,12 +5,12 @@ use Prim.Native.Nat.{ℕ, zero, suc, ◌-◌, ◌≤◌, ◌<◌}
 use native.Mathlib.Omega.{arith}
 use mathlib.Core.List.{List}
 use lib.ListN.{length}
-use Rattle.wire.specs.Verdict.{◌▷◌}
+use Rattle.wire.specs.Verdict.{◌▷◌, Fine}
 use Rattle.wire.specs.declared.verdict.Refusal.{Refusal}
-use Rattle.wire.specs.declared.verdict.Verdict.TheVariants.{Fine, Refused}
 use Rattle.wire.proofs.Verdicts.{then-fine, go_on, refused-then}
 use Rattle.link.specs.Reading.{item_end, item_place, item_verdict, items_verdict}
 use Rattle.link.proofs.Items.{item-passed}
+use Rattle.std.specs.Prelude.{Err}
 
 -- k are left, the first of them at p
 
@@ -21,7 +21,7 @@ module _ (k : ℕ) (xs : List ℕ) (p : ℕ) (h : 0 < k) where
   same : k - 1 ≡ suc (k - 1) - 1
   same = omega arith
 
-  pub items-stop : (r : Refusal) → item_verdict xs p ≡ Refused r → items_verdict k xs p ≡ Refused r
+  pub items-stop : (r : Refusal) → item_verdict xs p ≡ Err r → items_verdict k xs p ≡ Err r
   unfolding items_verdict
   items-stop r v = rw least (refused-then (item_verdict xs p) _ r v)
 

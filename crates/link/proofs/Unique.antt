@@ -10,8 +10,6 @@ use Rattle.link.proofs.LinkInfo.none.Kinds as none-kinds
 use Rattle.link.proofs.LinkInfo.none.Reads as none_reads
 use Rattle.link.proofs.LinkFields.with_reserved_ones.Kinds as with-reserved-ones-kinds
 use Rattle.link.proofs.LinkFields.with_reserved_ones.Reads as with-reserved-ones-reads
-use Rattle.link.proofs.reading.LinkRead.refused.Kinds as link-refused-kinds
-use Rattle.link.proofs.reading.LinkRead.refused.Reads as link-refused-reads
 use Rattle.link.proofs.has_uri.Kinds as has-uri-kinds
 use Rattle.link.proofs.has_uri.Reads as has-uri-reads
 use Rattle.link.proofs.has_locator.Kinds as has-locator-kinds
@@ -34,6 +32,3 @@ has-uri-one = record { total = λ κs a. tt; one = λ κs a x y v w p q. (both p
 
 pub has-locator-one : One has-locator-kinds.ps has-locator-kinds.r has-locator-reads.Asked has-locator-reads.Learnt
 has-locator-one = record { total = λ κs a. tt; one = λ κs a x y v w p q. (both p q, refl) }
-
-pub link-refused-one : One link-refused-kinds.ps link-refused-kinds.r link-refused-reads.Asked link-refused-reads.Learnt
-link-refused-one = record { total = λ κs a. tt; one = λ κs a x y v w p q. (both p q, refl) }

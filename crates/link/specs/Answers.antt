@@ -1,40 +1,43 @@
 -- What the calls that read a body answer: of a link, of its fields alone, of an item by number, of an item by its place.
 -- Assumes nothing.
-use Rattle.std.specs.Prelude.{ℕ, ◌+◌, List, take}
-use Rattle.wire.specs.Verdict.{counted_row, ◌▷◌}
+use Rattle.std.specs.Prelude.{ℕ, ◌+◌, List, take, Err, Ok, Result}
+use Rattle.wire.specs.Verdict.{counted_row, ◌▷◌, Fine, Verdict}
 use Rattle.wire.specs.declared.verdict.Refusal.{Refusal}
-use Rattle.wire.specs.declared.verdict.Verdict.{Verdict}
-use Rattle.wire.specs.declared.verdict.Verdict.TheVariants.{Fine, Refused}
 use Rattle.link.specs.Reading.{items_place, item_count, item_end, item_place, item_verdict, body_verdict}
 use Rattle.link.specs.Records.{no_link, item_info, fields_at, info_at}
 use Rattle.link.specs.declared.LinkFields.{LinkFields}
 use Rattle.link.specs.declared.LinkInfo.{LinkInfo}
 use Rattle.link.specs.declared.LinkItem.{LinkItem}
-use Rattle.link.specs.declared.reading.LinkRead.{LinkRead}
 use Rattle.link.specs.declared.reading.FieldsRead.{FieldsRead}
-use Rattle.link.specs.declared.reading.FieldsRead.TheVariants as fields
-use Rattle.link.specs.declared.reading.ItemRead.{ItemRead}
-use Rattle.link.specs.declared.reading.ItemRead.TheVariants as item
 use Rattle.link.specs.declared.reading.ItemStep.{ItemStep}
-use Rattle.link.specs.declared.reading.ItemStep.TheVariants as step
 
--- the record of a body, or the refusal and the record of nothing
-abbrev pub not_read : Refusal → LinkRead
-not_read r = record { verdict = Refused r; link = no_link }
+-- an item, and the place behind it
+abbrev pub got_step : LinkItem → ℕ → Result ItemStep Refusal
+got_step k q = Ok (record { item = k; next = q })
 
-unfoldable pub link_answer : Verdict → LinkInfo → LinkRead
-link_answer Fine k = record { verdict = Fine; link = k }
-link_answer (Refused r) k = not_read r
+-- a link without its items, and the place of the first of them
+abbrev pub got_fields : LinkFields → ℕ → Result FieldsRead Refusal
+got_fields k p = Ok (record { fields = k; items_at = p })
 
-unfoldable pub link_read : ℕ → ℕ → List ℕ → LinkRead
+-- the record of a body, or the refusal
+unfoldable pub link_answer : Verdict → LinkInfo → Result LinkInfo Refusal
+link_answer (Ok _) k = Ok k
+link_answer (Err r) k = Err r
+
+-- the record that was read: beside a refusal it is the record of nothing
+abbrev pub link_got : Result LinkInfo Refusal → LinkInfo
+link_got (Ok k) = k
+link_got (Err r) = no_link
+
+unfoldable pub link_read : ℕ → ℕ → List ℕ → Result LinkInfo Refusal
 link_read base r xs = link_answer (body_verdict xs) (info_at base r xs)
 
 -- the fields of a body and the place of its first item, counted from the base too, or the refusal
-unfoldable pub fields_answer : Verdict → LinkFields → ℕ → FieldsRead
-fields_answer Fine k p = fields.Got k p
-fields_answer (Refused r) k p = fields.Refused r
+unfoldable pub fields_answer : Verdict → LinkFields → ℕ → Result FieldsRead Refusal
+fields_answer (Ok _) k p = got_fields k p
+fields_answer (Err r) k p = Err r
 
-unfoldable pub fields_read : ℕ → ℕ → List ℕ → FieldsRead
+unfoldable pub fields_read : ℕ → ℕ → List ℕ → Result FieldsRead Refusal
 fields_read base r xs = fields_answer (body_verdict xs) (fields_at base r xs) (base + items_place xs)
 
 -- item i of a body: the row 21, with the number and the count; the body's refusals before it
@@ -44,15 +47,15 @@ item_row xs i = counted_row (item_count xs) i
 unfoldable pub item_rows : List ℕ → ℕ → Verdict
 item_rows xs i = body_verdict xs ▷ item_row xs i
 
-unfoldable pub item_answer : Verdict → LinkItem → ItemRead
-item_answer Fine k = item.Got k
-item_answer (Refused r) k = item.Refused r
+unfoldable pub item_answer : Verdict → LinkItem → Result LinkItem Refusal
+item_answer (Ok _) k = Ok k
+item_answer (Err r) k = Err r
 
 -- the item itself, of items that the rows have passed
 abbrev pub item_in : ℕ → List ℕ → ℕ → LinkItem
 item_in base xs i = item_info base xs (item_place i xs (items_place xs))
 
-unfoldable pub item_read : ℕ → List ℕ → ℕ → ItemRead
+unfoldable pub item_read : ℕ → List ℕ → ℕ → Result LinkItem Refusal
 item_read base xs i = item_answer (item_rows xs i) (item_in base xs i)
 
 -- the last place that a range's 32 bits can tell; of a slice that is longer no more is looked at
@@ -63,9 +66,9 @@ unfoldable pub told : List ℕ → List ℕ
 told xs = take last_place xs
 
 -- the item at p of a slice, its range counted from the slice's first byte, and the place behind it: 12 and 13 against the slice's end
-unfoldable pub step_answer : Verdict → LinkItem → ℕ → ItemStep
-step_answer Fine k q = step.Got k q
-step_answer (Refused r) k q = step.Refused r
+unfoldable pub step_answer : Verdict → LinkItem → ℕ → Result ItemStep Refusal
+step_answer (Ok _) k q = got_step k q
+step_answer (Err r) k q = Err r
 
-unfoldable pub item_from : List ℕ → ℕ → ItemStep
+unfoldable pub item_from : List ℕ → ℕ → Result ItemStep Refusal
 item_from xs p = step_answer (item_verdict (told xs) p) (item_info 0 (told xs) p) (item_end (told xs) p)

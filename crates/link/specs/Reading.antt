@@ -2,7 +2,7 @@
 -- for. Places are counted from the body's first byte; each is a total function of the bytes, and means something where
 -- the rows before it are passed.
 -- Assumes nothing.
-use Rattle.std.specs.Prelude.{ℕ, zero, suc, ◌+◌, ◌/◌, Bool, List, [], ◌∷◌, eqb, ltb, length, get_or, drop}
+use Rattle.std.specs.Prelude.{ℕ, zero, suc, ◌+◌, ◌/◌, Bool, List, [], ◌∷◌, eqb, ltb, length, get_or, drop, Err, Ok, Result}
 use Rattle.std.proofs.Math.Option.{Option, none, some}
 use Rattle.wire.specs.Choice.{pick}
 use Rattle.wire.specs.Lists.{part}
@@ -10,14 +10,12 @@ use Rattle.field.specs.Fields.{low, how_related, term_id, link_type, link_type_r
 use Rattle.length_field.specs.Lengths.{length_at, beside_at, last_verdict}
 use Rattle.wire.specs.Numbers.{be16}
 use Rattle.wire.specs.Refusals.{body_too_short, uri_length_cut, uri_cut, no_locator, item_count_cut, item_cut, text_cut, icon_cut, descriptors_too_long, link_slack}
-use Rattle.wire.specs.Verdict.{refuse, ◌▷◌}
-use Rattle.wire.specs.declared.verdict.Verdict.{Verdict}
-use Rattle.wire.specs.declared.verdict.Verdict.TheVariants.{Fine, Refused}
+use Rattle.wire.specs.Verdict.{refuse, ◌▷◌, Fine, Verdict}
 use Rattle.locator.specs.Reading.{read_locator}
 use Rattle.locator.specs.declared.DvbBinaryLocator.{DvbBinaryLocator}
-use Rattle.locator.specs.declared.reading.LocatorRead.{LocatorRead}
-use Rattle.locator.specs.declared.reading.LocatorRead.TheVariants as read
 use Rattle.link.specs.Syntax.{head_length, uri_head, count_length, language_length, item_head, Item, Link, uri_due, locator_due}
+use Rattle.locator.specs.declared.reading.LocatorRead.{LocatorRead}
+use Rattle.wire.specs.declared.verdict.Refusal.{Refusal}
 
 -- ---- the fields of the first four bytes: a `/` says how many bits stand behind a field, `low` how many it has
 
@@ -50,20 +48,20 @@ abbrev pub uri_end_place : List ℕ → ℕ
 uri_end_place xs = pick (uri_due (type_at xs)) (uri_start + get_or xs head_length 0) head_length
 
 -- what a reading of a locator says: its verdict, the locator, the bytes used
-abbrev pub locator_said : LocatorRead → Verdict
-locator_said (read.Got l n) = Fine
-locator_said (read.Refused r) = Refused r
+abbrev pub locator_said : Result LocatorRead Refusal → Verdict
+locator_said (Ok got) = Fine
+locator_said (Err r) = Err r
 
-abbrev pub locator_got : LocatorRead → Option DvbBinaryLocator
-locator_got (read.Got l n) = some l
-locator_got (read.Refused r) = none
+abbrev pub locator_got : Result LocatorRead Refusal → Option DvbBinaryLocator
+locator_got (Ok got) = some got.locator
+locator_got (Err r) = none
 
-abbrev pub locator_used : LocatorRead → ℕ
-locator_used (read.Got l n) = n
-locator_used (read.Refused r) = 0
+abbrev pub locator_used : Result LocatorRead Refusal → ℕ
+locator_used (Ok got) = got.used
+locator_used (Err r) = 0
 
 -- what is left of the link behind the URI is what a locator is read from: it is bounded by its link
-abbrev pub locator_in : List ℕ → LocatorRead
+abbrev pub locator_in : List ℕ → Result LocatorRead Refusal
 locator_in xs = read_locator (drop (uri_end_place xs) xs)
 
 -- behind the locator, if there is one: the byte with the number of items

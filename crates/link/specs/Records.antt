@@ -1,25 +1,22 @@
 -- A link's record, as the code carries it: the link that it stands for with a text, and the record of a body that is read,
 -- whose ranges are counted from a base, the body's place in the text.
 -- Assumes nothing.
-use Rattle.std.specs.Prelude.{ℕ, zero, suc, ◌+◌, ◌-◌, false, List, [], ◌∷◌, ◌++◌, map, length, get_or, take, replicate}
+use Rattle.std.specs.Prelude.{ℕ, zero, suc, ◌+◌, ◌-◌, false, List, [], ◌∷◌, ◌++◌, map, length, get_or, take, replicate, Err, None, Ok, Result, Some}
 use Rattle.std.proofs.Math.Option.{Option, none, some}
 use Rattle.wire.specs.Choice.{pick}
 use Rattle.wire.specs.Lists.{part}
 use Rattle.length_field.specs.Lengths.{length_at}
 use Rattle.field.specs.Fields.{link_type_reserved, number_items, number_items_reserved, link_length_reserved}
 use Rattle.locator.specs.declared.DvbBinaryLocator.{DvbBinaryLocator}
-use Rattle.locator.specs.declared.reading.LocatorRead.{LocatorRead}
-use Rattle.locator.specs.declared.reading.LocatorRead.TheVariants as read
 use Rattle.link.specs.Syntax.{head_length, item_head, Item, Link, uri_due, locator_due}
 use Rattle.link.specs.Reading.{type_at, type_reserved_at, how_related_at, term_id_at, group_id_at, precedence_at, uri_start, locator_in, items_place, item_count, items_reserved_at, text_size, item_end, tail_place, default_icon_at, icon_id_at}
 use Rattle.link.specs.declared.Range.{Range}
 use Rattle.link.specs.declared.LinkItem.{LinkItem}
-use Rattle.link.specs.declared.MediaUri.{MediaUri}
-use Rattle.link.specs.declared.MediaUri.TheVariants as uri
-use Rattle.link.specs.declared.LinkLocator.{LinkLocator}
-use Rattle.link.specs.declared.LinkLocator.TheVariants as place
 use Rattle.link.specs.declared.LinkFields.{LinkFields}
 use Rattle.link.specs.declared.LinkInfo.{LinkInfo}
+use Rattle.link.specs.Options.{LinkLocator, MediaUri}
+use Rattle.locator.specs.declared.reading.LocatorRead.{LocatorRead}
+use Rattle.wire.specs.declared.verdict.Refusal.{Refusal}
 
 -- ---- the link that a record stands for, with the text that its ranges are of
 
@@ -30,12 +27,12 @@ abbrev pub item_of : List ℕ → LinkItem → Item
 item_of t i = record { language = i.language_code; text = range_of t i.promotional_text }
 
 abbrev pub uri_of : List ℕ → MediaUri → Option (List ℕ)
-uri_of t uri.Absent = none
-uri_of t (uri.Present r) = some (range_of t r)
+uri_of t None = none
+uri_of t (Some r) = some (range_of t r)
 
 abbrev pub locator_of : LinkLocator → Option DvbBinaryLocator
-locator_of place.Absent = none
-locator_of (place.Present l) = some l
+locator_of None = none
+locator_of (Some l) = some l
 
 -- the items that count: those past their number mean nothing
 abbrev pub items_of : LinkInfo → List LinkItem
@@ -83,8 +80,8 @@ no_fields =
       term_id = 0;
       group_id = 0;
       precedence = 0;
-      media_uri = uri.Absent;
-      dvb_binary_locator = place.Absent;
+      media_uri = None;
+      dvb_binary_locator = None;
       reserved_number_items = 0;
       number_items = 0;
       default_icon_flag = false;
@@ -128,14 +125,14 @@ item_infos base zero xs p = []
 item_infos base (suc n) xs p = item_info base xs p ∷ item_infos base n xs (item_end xs p)
 
 abbrev pub uri_info : ℕ → List ℕ → MediaUri
-uri_info base xs = pick (uri_due (type_at xs)) (uri.Present (record { start = base + uri_start; length = get_or xs head_length 0 })) uri.Absent
+uri_info base xs = pick (uri_due (type_at xs)) (Some (record { start = base + uri_start; length = get_or xs head_length 0 })) None
 
-abbrev pub locator_held : LocatorRead → LinkLocator
-locator_held (read.Got l n) = place.Present l
-locator_held (read.Refused r) = place.Absent
+abbrev pub locator_held : Result LocatorRead Refusal → LinkLocator
+locator_held (Ok got) = Some got.locator
+locator_held (Err r) = None
 
 abbrev pub locator_info : List ℕ → LinkLocator
-locator_info xs = pick (locator_due (type_at xs)) (locator_held (locator_in xs)) place.Absent
+locator_info xs = pick (locator_due (type_at xs)) (locator_held (locator_in xs)) None
 
 -- the fields of a body, whose entry has the four bits r
 unfoldable pub fields_at : ℕ → ℕ → List ℕ → LinkFields

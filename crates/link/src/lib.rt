@@ -35,18 +35,6 @@ pub struct LinkItem {
     pub promotional_text: Range,
 }
 
-#[derive(Clone, Copy)]
-pub enum MediaUri {
-    Absent,
-    Present(Range),
-}
-
-#[derive(Clone, Copy)]
-pub enum LinkLocator {
-    Absent,
-    Present(DvbBinaryLocator),
-}
-
 // The fields of a link's record, all but the items themselves. The number of the items stands last, so that the items follow
 // without a gap: a record that is made of its fields and its items is then not made twice.
 #[derive(Clone, Copy)]
@@ -58,8 +46,8 @@ pub struct LinkFields {
     pub term_id: u16,
     pub group_id: u16,
     pub precedence: u16,
-    pub media_uri: MediaUri,
-    pub dvb_binary_locator: LinkLocator,
+    pub media_uri: Option<Range>,
+    pub dvb_binary_locator: Option<DvbBinaryLocator>,
     pub reserved_number_items: u16,
     pub default_icon_flag: bool,
     pub icon_id: u16,
@@ -126,8 +114,8 @@ impl LinkFields {
             term_id: 0,
             group_id: 0,
             precedence: 0,
-            media_uri: MediaUri::Absent,
-            dvb_binary_locator: LinkLocator::Absent,
+            media_uri: None,
+            dvb_binary_locator: None,
             reserved_number_items: 0,
             number_items: 0,
             default_icon_flag: false,

@@ -1,14 +1,13 @@
 -- The walk over the counted items: what was found so far, joined with what is left to find, is the whole. And how the
 -- answer is made of what its stages found.
 -- Assumes nothing.
-use Prim.Native.Nat.{ℕ, min, ◌+◌, ◌≤◌, ◌<◌}
+use Prim.Native.Nat.{ℕ, ◌+◌, ◌≤◌, ◌<◌}
 use mathlib.Core.Path.{◌≡◌, refl, sym, ap, ◌∙◌}
 use mathlib.Core.List.{List, [], ◌∷◌}
 use native.Mathlib.Omega.{arith}
-use lib.ListN.{length, take, drop, get_or}
+use lib.ListN.{length, drop, get_or, drop_of_length-le}
 use Rattle.field.specs.Fields.{text_length}
-use Rattle.wire.specs.Verdict.{◌▷◌}
-use Rattle.wire.specs.declared.verdict.Verdict.{Verdict}
+use Rattle.wire.specs.Verdict.{◌▷◌, Verdict}
 use Rattle.wire.proofs.Verdicts.{then-assoc, then-nothing}
 use Rattle.link.specs.Syntax.{item_head}
 use Rattle.link.specs.Records.{items_of}
@@ -17,7 +16,7 @@ use Rattle.link.specs.declared.LinkInfo.{LinkInfo}
 use Rattle.link_draft.specs.Checks.{first_in, check_fields, check_ranges, check_link, link_checked}
 use Rattle.link_draft.specs.Lengths.{items_size, link_length}
 use Rattle.link_draft.specs.declared.LinkChecked.{LinkChecked}
-use Rattle.link_draft.proofs.Counted.{counted_next, counted_none}
+use Rattle.std.proofs.lemmas.List.{drop_more}
 use Rattle.link_checker.specs.Stages.{no_ranges, joined, range_checked, texts_checked, all_checked}
 use Rattle.link_checker.specs.declared.RangesChecked.{RangesChecked}
 
@@ -48,18 +47,18 @@ texts-nil have = refl
 pub texts-start : (have : ℕ) (xs : List LinkItem) → joined no_ranges (texts_checked have xs) ≡ texts_checked have xs
 texts-start have xs = none-joined (texts_checked have xs)
 
-module _ (have : ℕ) (xs : List LinkItem) (count i : ℕ) (found all : RangesChecked) (inv : joined found (texts_checked have (drop i (take count xs))) ≡ all) where
-  pub texts-on : (d : LinkItem) → i < min count (length xs)
-      → joined (joined found (range_checked have item_head text_length (get_or xs i d).promotional_text)) (texts_checked have (drop (i + 1) (take count xs))) ≡ all
+module _ (have : ℕ) (xs : List LinkItem) (i : ℕ) (found all : RangesChecked) (inv : joined found (texts_checked have (drop i xs)) ≡ all) where
+  pub texts-on : (d : LinkItem) → i < length xs
+      → joined (joined found (range_checked have item_head text_length (get_or xs i d).promotional_text)) (texts_checked have (drop (i + 1) xs)) ≡ all
   texts-on d h =
       let x = get_or xs i d in
-      let rest = drop (i + 1) (take count xs) in
+      let rest = drop (i + 1) xs in
       joined-assoc found (range_checked have item_head text_length x.promotional_text) (texts_checked have rest)
-      ∙ ap (joined found) (sym (texts-cons have x rest) ∙ sym (ap (texts_checked have) (counted_next xs count i d h)))
+      ∙ ap (joined found) (sym (texts-cons have x rest) ∙ sym (ap (texts_checked have) (drop_more xs i d h)))
       ∙ inv
 
-  pub texts-done : min count (length xs) ≤ i → found ≡ all
-  texts-done h = sym (joined-none found) ∙ ap (joined found) (sym (texts-nil have) ∙ sym (ap (texts_checked have) (counted_none xs count i h))) ∙ inv
+  pub texts-done : length xs ≤ i → found ≡ all
+  texts-done h = sym (joined-none found) ∙ ap (joined found) (sym (texts-nil have) ∙ sym (ap (texts_checked have) (drop_of_length-le xs {i = i} h))) ∙ inv
 
 -- ---- the answer
 

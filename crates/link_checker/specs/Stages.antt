@@ -4,20 +4,17 @@
 use Rattle.std.specs.Prelude.{ℕ, ◌+◌, List}
 use Rattle.field.specs.Fields.{icon_id, link_length_reserved, check_field}
 use Rattle.field.specs.declared.Field.{Field}
-use Rattle.wire.specs.Verdict.{◌▷◌}
-use Rattle.wire.specs.declared.verdict.Verdict.{Verdict}
-use Rattle.wire.specs.declared.verdict.Verdict.TheVariants.{Fine}
+use Rattle.wire.specs.Verdict.{◌▷◌, Fine, Verdict}
 use Rattle.link.specs.Syntax.{head_length, count_length, item_head}
 use Rattle.link.specs.declared.Range.{Range}
 use Rattle.link.specs.declared.LinkItem.{LinkItem}
-use Rattle.link.specs.declared.MediaUri.{MediaUri}
-use Rattle.link.specs.declared.LinkLocator.{LinkLocator}
 use Rattle.link.specs.declared.LinkFields.{LinkFields}
 use Rattle.link_draft.specs.Checks.{first_in, check_presence, check_head, check_uri, check_locator_fields, check_count, check_text, check_end, check_locator_rule, check_range, check_uri_range, check_text_range}
 use Rattle.link_draft.specs.Lengths.{tail_head, uri_size, locator_size, items_size}
 use Rattle.link_draft.specs.declared.LinkChecked.{LinkChecked}
 use Rattle.link_checker.specs.declared.RangesChecked.{RangesChecked}
 use Rattle.link_checker.specs.declared.LocatorChecked.{LocatorChecked}
+use Rattle.link.specs.Options.{LinkLocator, MediaUri}
 
 -- ---- ranges of a text that has `have` bytes
 

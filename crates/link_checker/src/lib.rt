@@ -11,24 +11,25 @@ ghost use Rattle.link_checker.specs.Stages.{no_ranges, joined, range_checked, ur
 
 use field::Field;
 use length_field::LengthField;
-use link::{LinkFields, LinkInfo, LinkItem, LinkLocator, MediaUri, Range};
+use link::{LinkFields, LinkInfo, LinkItem, Range};
 use link_draft::{LinkChecked, check_range, held, locator_here, uri_here};
-use wire::verdict::{Refusal, Verdict, first_of};
+use locator::DvbBinaryLocator;
+use wire::verdict::{Refusal, first_of};
 
 // Of some parts of the body that are ranges of the text: the first length that is too wide for its field, the first range
 // past the text, and how many bytes they have with their heads.
 #[derive(Clone, Copy)]
 struct RangesChecked {
-    narrow: Verdict,
-    within: Verdict,
+    narrow: Result<(), Refusal>,
+    within: Result<(), Refusal>,
     length: usize,
 }
 
 // Of the locator: the first field that is too wide, whether the windows are as the rule has them, and how many bytes it has.
 #[derive(Clone, Copy)]
 struct LocatorChecked {
-    narrow: Verdict,
-    rule: Verdict,
+    narrow: Result<(), Refusal>,
+    rule: Result<(), Refusal>,
     length: usize,
 }
 
@@ -41,9 +42,7 @@ pub fn check_link(text: &[u8], link: LinkInfo) -> LinkChecked
     let have = text.len();
     let n = held(fields.number_items);
     let mut texts = RangesChecked::none();
-    let mut i: usize = 0;
-    while i < n {
-        let item = items[i];
+    for item in &items[..n] {
         let found = check_ranged(
             have,
             LinkItem::HEAD,
@@ -51,7 +50,6 @@ pub fn check_link(text: &[u8], link: LinkInfo) -> LinkChecked
             item.promotional_text,
         );
         texts = texts.joined(found);
-        i += 1;
     }
     check_all(have, fields, texts)
 }
@@ -83,13 +81,13 @@ fn check_all(have: usize, fields: LinkFields, texts: RangesChecked) -> LinkCheck
 }
 
 // 23: what is there agrees with the link type, which may be wider than its field.
-fn check_presence(fields: LinkFields) -> Verdict
+fn check_presence(fields: LinkFields) -> Result<(), Refusal>
     ensures { result ≡ check_presence fields }
 {
     let uri = fields.media_uri;
     let locator = fields.dvb_binary_locator;
     let link_type = fields.link_type;
-    let against = Verdict::Refused(Refusal {
+    let against = Err(Refusal {
         number: Refusal::AGAINST_TYPE,
         first: link_type as usize,
         second: 0,
@@ -100,7 +98,7 @@ fn check_presence(fields: LinkFields) -> Verdict
     if locator_here(locator) != link::has_locator(link_type) {
         return against;
     }
-    Verdict::Fine
+    Ok(())
 }
 
 // 22 of the lowest rank that is too wide, with what was found of the ranks that are looked at elsewhere.
@@ -110,7 +108,7 @@ fn check_fields(
     locator: LocatorChecked,
     texts: RangesChecked,
     descriptors: RangesChecked,
-) -> Verdict
+) -> Result<(), Refusal>
     ensures { result ≡ fields_checked fields uri.narrow locator.narrow texts.narrow descriptors.narrow }
 {
     let rank7 = uri.narrow;
@@ -131,7 +129,7 @@ fn check_fields(
 }
 
 // 22 of ranks 1 to 6.
-fn check_head(fields: LinkFields) -> Verdict
+fn check_head(fields: LinkFields) -> Result<(), Refusal>
     ensures { result ≡ check_head fields }
 {
     let related = narrow(Field::HOW_RELATED, fields.how_related);
@@ -145,36 +143,31 @@ fn check_head(fields: LinkFields) -> Verdict
 }
 
 // 22 of a field that is carried in 16 bits.
-fn narrow(field: Field, number: u16) -> Verdict
+fn narrow(field: Field, number: u16) -> Result<(), Refusal>
     ensures { result ≡ check_field field number }
 {
     field.check(number as usize)
 }
 
-fn check_uri(have: usize, uri: MediaUri) -> RangesChecked
+fn check_uri(have: usize, uri: Option<Range>) -> RangesChecked
     ensures { (result ≡ uri_checked have uri) × (result.length ≤ most_range) }
 {
     match uri {
-        MediaUri::Absent => RangesChecked::none(),
-        MediaUri::Present(range) => check_ranged(
-            have,
-            LinkFields::URI_HEAD,
-            Field::URI_LENGTH,
-            range,
-        ),
+        None => RangesChecked::none(),
+        Some(range) => check_ranged(have, LinkFields::URI_HEAD, Field::URI_LENGTH, range),
     }
 }
 
-fn check_locator(locator: LinkLocator) -> LocatorChecked
+fn check_locator(locator: Option<DvbBinaryLocator>) -> LocatorChecked
     ensures { (result ≡ locator_checked locator) × (result.length ≤ longest_written) }
 {
     match locator {
-        LinkLocator::Absent => LocatorChecked {
-            narrow: Verdict::Fine,
-            rule: Verdict::Fine,
+        None => LocatorChecked {
+            narrow: Ok(()),
+            rule: Ok(()),
             length: 0,
         },
-        LinkLocator::Present(l) => LocatorChecked {
+        Some(l) => LocatorChecked {
             narrow: locator_checker::check_fields(l),
             rule: locator_checker::check_windows(l),
             length: locator_length::length_of(l),
@@ -200,8 +193,8 @@ impl RangesChecked {
         ensures { result ≡ no_ranges }
     {
         RangesChecked {
-            narrow: Verdict::Fine,
-            within: Verdict::Fine,
+            narrow: Ok(()),
+            within: Ok(()),
             length: 0,
         }
     }

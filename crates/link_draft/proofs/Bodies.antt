@@ -11,7 +11,6 @@ use lib.ListN.{length, length-append, length-map, length-take}
 use Rattle.wire.specs.Choice.{pick}
 use Rattle.length_field.specs.Lengths.{length_bytes, block_bytes}
 use Rattle.spans.specs.Spans.{span, span_of, span_in}
-use Rattle.wire.specs.declared.verdict.Verdict.TheVariants.{Fine}
 use Rattle.spans.proofs.SpanLaws.{span-inside}
 use Rattle.wire.proofs.Verdicts.{then-fine}
 use Rattle.field.specs.Fields.{how_related, term_id, link_type, link_type_reserved, group_id, precedence, uri_length, number_items_reserved, text_length, descriptor_length, icon_id, low}
@@ -25,10 +24,6 @@ use Rattle.link.specs.Syntax.{field_bytes, uri_bytes, locator_part, item_bytes, 
 use Rattle.link.specs.Records.{range_of, item_of, uri_of, locator_of, items_of, link_of}
 use Rattle.link.specs.declared.Range.{Range}
 use Rattle.link.specs.declared.LinkItem.{LinkItem}
-use Rattle.link.specs.declared.MediaUri.{MediaUri}
-use Rattle.link.specs.declared.MediaUri.TheVariants as uri
-use Rattle.link.specs.declared.LinkLocator.{LinkLocator}
-use Rattle.link.specs.declared.LinkLocator.TheVariants as locator
 use Rattle.link.specs.declared.LinkFields.{LinkFields}
 use Rattle.link.specs.declared.LinkInfo.{LinkInfo}
 use Rattle.link_draft.specs.Checks.{first_in, check_uri, check_locator_fields, check_text, check_link}
@@ -38,6 +33,9 @@ use Rattle.link_draft.specs.Writing.{range_in, head_bytes, headed, uri_parts, lo
 use Rattle.link_draft.proofs.Sizes.{range_length}
 use Rattle.link_draft.proofs.Exact.{passed}
 use Rattle.link_draft.proofs.Parts.{flatten-append}
+use Rattle.link.specs.Options.{LinkLocator, MediaUri}
+use Rattle.std.specs.Prelude.{None, Some}
+use Rattle.wire.specs.Verdict.{Fine}
 
 -- ---- what passes is written as it is
 
@@ -60,14 +58,14 @@ head-flat t k n =
 
 uri-flat : (t : List ℕ) (u : MediaUri) → UriWithin t u → check_uri u ≡ Fine → flatten (uri_parts t u) ≡ uri_bytes (uri_of t u)
 unfolding uri_parts uri_bytes check_uri
-uri-flat t uri.Absent w e = unfold flatten in refl
-uri-flat t (uri.Present r) w e =
+uri-flat t None w e = unfold flatten in refl
+uri-flat t (Some r) w e =
     headed-flat t _ r w ∙ ap (λ n. n ∷ range_of t r) (length-low uri_length t r w (field-passed uri_length r.length e))
 
 locator-flat : (m : LinkLocator) → check_locator_fields m ≡ Fine → flatten (locator_parts m) ≡ locator_part (locator_of m)
 unfolding locator_parts locator_part check_locator_fields flatten
-locator-flat locator.Absent e = refl
-locator-flat (locator.Present l) e = append-nil _ ∙ ap locator_bytes (written-checked l e).same
+locator-flat None e = refl
+locator-flat (Some l) e = append-nil _ ∙ ap locator_bytes (written-checked l e).same
 
 item-flat : (t : List ℕ) (i : LinkItem) → TextWithin t i → check_text i ≡ Fine → flatten (item_parts t i) ≡ item_bytes (item_of t i)
 unfolding item_parts item_bytes
@@ -142,13 +140,13 @@ headed-few t head r = rw (append-nil (range_in t r), length-append) (omega (arit
 
 uri-few : (t : List ℕ) (u : MediaUri) → length (flatten (uri_parts t u)) ≤ uri_size u
 unfolding uri_parts uri_size
-uri-few t uri.Absent = unfold flatten in omega arith
-uri-few t (uri.Present r) = headed-few t (low uri_length r.length ∷ []) r
+uri-few t None = unfold flatten in omega arith
+uri-few t (Some r) = headed-few t (low uri_length r.length ∷ []) r
 
 locator-few : (m : LinkLocator) → length (flatten (locator_parts m)) ≡ locator_size m
 unfolding locator_parts locator_size flatten
-locator-few locator.Absent = refl
-locator-few (locator.Present l) = ap length (append-nil (locator_bytes (narrowed l))) ∙ bytes-length (narrowed l) ∙ narrowed-length l
+locator-few None = refl
+locator-few (Some l) = ap length (append-nil (locator_bytes (narrowed l))) ∙ bytes-length (narrowed l) ∙ narrowed-length l
 
 items-few : (t : List ℕ) (is : List LinkItem) → length (flatten (items_parts t is)) ≤ items_size is
 unfolding items_parts items_size item_parts

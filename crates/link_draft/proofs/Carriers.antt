@@ -17,20 +17,20 @@ use Rattle.locator.specs.declared.DvbBinaryLocator.{DvbBinaryLocator}
 use Rattle.locator.specs.declared.DvbLocatorService.{DvbLocatorService}
 use Rattle.locator.specs.declared.DvbLocatorService.TheVariants.{Triplet, Full}
 use Rattle.locator.specs.declared.DvbLocatorIdentifier.{DvbLocatorIdentifier}
-use Rattle.locator.specs.declared.DvbLocatorIdentifier.TheVariants.{None, EventId, TvaIdEit, TvaIdPes}
+use Rattle.locator.specs.declared.DvbLocatorIdentifier.TheVariants.{None as NoIdentifier, EventId, TvaIdEit, TvaIdPes}
 use Rattle.locator.specs.contracts.DvbBinaryLocator as locator-type
 use Rattle.locator.specs.contracts.DvbLocatorService as service-type
 use Rattle.locator.specs.contracts.DvbLocatorIdentifier as identifier-type
 use Rattle.link.specs.declared.LinkItem.{LinkItem}
-use Rattle.link.specs.declared.LinkLocator.{LinkLocator}
-use Rattle.link.specs.declared.LinkLocator.TheVariants as variants
 use Rattle.link.specs.declared.LinkFields.{LinkFields}
 use Rattle.link.specs.declared.LinkInfo.{LinkInfo}
 use Rattle.link.specs.contracts.LinkItem as item-type
-use Rattle.link.specs.contracts.LinkLocator as link-locator-type
+use Rattle.std.specs.contracts.option.Option as option-type
 use Rattle.link.specs.contracts.LinkFields as fields-type
 use Rattle.link.specs.contracts.LinkInfo as link-type
 use Rattle.link_draft.specs.Carried.{Each, ItemCarried, LocatorCarried, Carried}
+use Rattle.link.specs.Options.{LinkLocator}
+use Rattle.std.specs.Prelude.{None, Some}
 
 item : (i : LinkItem) (vs : List Val) → Is (struct.row item-type.the_type) i vs → ItemCarried i
 item i vs g = let l = g.1.1.0.1.1 in record { first = l.0.1; second = l.1.0.1; third = l.1.1.0.1 }
@@ -49,7 +49,7 @@ service (Triplet t) vs g = tt
 service (Full r ts on sv) vs g = let f = g.1.1.1.1.1 in (f.0.1, f.1.0.1, f.1.1.0.1)
 
 identifier : (i : DvbLocatorIdentifier) (vs : List Val) → Is (enum.row identifier-type.the_type) i vs → syntax.IdentifierCarried i
-identifier None vs g = tt
+identifier NoIdentifier vs g = tt
 identifier (EventId e) vs g = g.1.1.1.1.0.1
 identifier (TvaIdEit t) vs g = g.1.1.1.1.0.1
 identifier (TvaIdPes t c) vs g = let f = g.1.1.1.1 in (f.0.1, f.1.0.1)
@@ -64,9 +64,9 @@ locator l vs g =
       identifier = identifier l.identifier _ f.1.1.1.0;
     }
 
-link-locator : (m : LinkLocator) (vs : List Val) → Is (enum.row link-locator-type.the_type) m vs → LocatorCarried m
-link-locator variants.Absent vs g = tt
-link-locator (variants.Present l) vs g = locator l _ g.1.1.1.1.0
+link-locator : (m : LinkLocator) (vs : List Val) → Is (option-type.the_row locator-type.the_row) m vs → LocatorCarried m
+link-locator None vs g = tt
+link-locator (Some l) vs g = locator l _ g.1.1.1.1.0
 
 -- of the fields the ninth
 fields : (f : LinkFields) (vs : List Val) → Is (struct.row fields-type.the_type) f vs → LocatorCarried f.dvb_binary_locator

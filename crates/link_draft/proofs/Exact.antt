@@ -9,65 +9,63 @@ use lib.ListN.{length, length-map, length-take}
 use Rattle.field.specs.Fields.{how_related, term_id, link_type, link_type_reserved, group_id, precedence, uri_length, number_items, number_items_reserved, text_length, descriptor_length, icon_id, link_length_reserved}
 use Rattle.field.proofs.Checks.{field-passed, field-pass}
 use Rattle.wire.specs.Lists.{Bytes}
-use Rattle.wire.specs.declared.verdict.Verdict.TheVariants.{Fine}
 use Rattle.wire.proofs.Lists.{bytes-part}
 use Rattle.wire.proofs.Verdicts.{then-fine, fine-then, agree-passed, agree-pass}
 use Rattle.locator.proofs.Checked.{fields-narrow, narrow-fields, windows-ruled, ruled-windows}
 use Rattle.link.specs.Syntax.{LinkFits, UriFits, LocatorFits, ItemsFit, here, uri_due, locator_due}
 use Rattle.link.specs.Records.{item_of, uri_of, locator_of, items_of, link_of}
 use Rattle.link.specs.declared.LinkItem.{LinkItem}
-use Rattle.link.specs.declared.MediaUri.{MediaUri}
-use Rattle.link.specs.declared.MediaUri.TheVariants as uri
-use Rattle.link.specs.declared.LinkLocator.{LinkLocator}
-use Rattle.link.specs.declared.LinkLocator.TheVariants as locator
 use Rattle.link.specs.declared.LinkFields.{LinkFields}
 use Rattle.link.specs.declared.LinkInfo.{LinkInfo}
 use Rattle.link_draft.specs.Checks.{first_in, uri_here, locator_here, check_presence, check_head, check_uri, check_locator_fields, check_count, check_text, check_end, check_fields, check_locator_rule, check_uri_range, check_text_range, check_ranges, check_link}
 use Rattle.link_draft.specs.Carried.{Each, ItemCarried, LocatorCarried, Carried, UriWithin, TextWithin, RangesWithin, Stands, HeadNarrow, EndNarrow}
 use Rattle.link_draft.proofs.Sizes.{range_length}
 use Rattle.link_draft.proofs.Rows.{range-passed, range-pass, each-passed, each-pass, each_take}
+use Rattle.link.specs.Options.{LinkLocator, MediaUri}
+use Rattle.std.specs.Prelude.{None, Some}
+use Rattle.wire.specs.Verdict.{Fine}
 
 -- ---- the URI
 
 pub uri-here : (t : List ℕ) (u : MediaUri) → here (uri_of t u) ≡ uri_here u
-uri-here t uri.Absent = refl
-uri-here t (uri.Present r) = refl
+uri-here t None = refl
+uri-here t (Some r) = refl
 
 uri-within : (t : List ℕ) (u : MediaUri) → check_uri_range (length t) u ≡ Fine → UriWithin t u
 unfolding check_uri_range
-uri-within t uri.Absent e = tt
-uri-within t (uri.Present r) e = range-passed t r e
+uri-within t None e = tt
+uri-within t (Some r) e = range-passed t r e
 
 within-uri : (t : List ℕ) (u : MediaUri) → UriWithin t u → check_uri_range (length t) u ≡ Fine
 unfolding check_uri_range
-within-uri t uri.Absent w = refl
-within-uri t (uri.Present r) w = range-pass t r w
+within-uri t None w = refl
+within-uri t (Some r) w = range-pass t r w
 
 uri-fits : (t : List ℕ) (u : MediaUri) → Bytes t → UriWithin t u → check_uri u ≡ Fine → UriFits (uri_of t u)
 unfolding check_uri
-uri-fits t uri.Absent b w e = tt
-uri-fits t (uri.Present r) b w e = (rw (range_length t r w) (field-passed uri_length r.length e), bytes-part t r.start r.length b)
+uri-fits t None b w e = tt
+uri-fits t (Some r) b w e = (rw (range_length t r w) (field-passed uri_length r.length e), bytes-part t r.start r.length b)
 
 fits-uri : (t : List ℕ) (u : MediaUri) → UriWithin t u → UriFits (uri_of t u) → check_uri u ≡ Fine
 unfolding check_uri
-fits-uri t uri.Absent w f = refl
-fits-uri t (uri.Present r) w f = field-pass uri_length r.length (rw (range_length t r w) at f.0)
+fits-uri t None w f = refl
+fits-uri t (Some r) w f = field-pass uri_length r.length (rw (range_length t r w) at f.0)
 
 -- ---- the locator
 
 pub locator-here : (m : LinkLocator) → here (locator_of m) ≡ locator_here m
-locator-here locator.Absent = refl
-locator-here (locator.Present l) = refl
+locator-here None = refl
+locator-here (Some l) = refl
 
 locator-fits : (m : LinkLocator) → LocatorCarried m → check_locator_fields m ≡ Fine → check_locator_rule m ≡ Fine → LocatorFits (locator_of m)
 unfolding check_locator_fields check_locator_rule
-locator-fits locator.Absent c e f = tt
-locator-fits (locator.Present l) c e f = record { narrow = fields-narrow l e; rule = windows-ruled l f; carried = c }
+locator-fits None c e f = tt
+locator-fits (Some l) c e f = record { narrow = fields-narrow l e; rule = windows-ruled l f; carried = c }
 
 fits-locator : (m : LinkLocator) → LocatorFits (locator_of m) → (check_locator_fields m ≡ Fine) × (check_locator_rule m ≡ Fine)
 unfolding check_locator_fields check_locator_rule
-fits-locator locator.Absent f = (refl, refl)
-fits-locator (locator.Present l) f = (narrow-fields l f.narrow, ruled-windows l f.rule)
+fits-locator None f = (refl, refl)
+fits-locator (Some l) f = (narrow-fields l f.narrow, ruled-windows l f.rule)
 
 -- ---- the items
 

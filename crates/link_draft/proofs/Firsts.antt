@@ -5,15 +5,14 @@ use mathlib.Core.Path.{◌≡◌, refl, sym, ap, ◌∙◌}
 use mathlib.Core.Bool.{Bool, true, false}
 use mathlib.Core.List.{List, [], ◌∷◌, ◌++◌, map}
 use native.Mathlib.Omega.{arith}
-use Rattle.wire.specs.Verdict.{bad, refuse, ◌▷◌}
+use Rattle.wire.specs.Verdict.{bad, refuse, ◌▷◌, Fine, Verdict}
 use Rattle.wire.specs.declared.verdict.Refusal.{Refusal}
-use Rattle.wire.specs.declared.verdict.Verdict.{Verdict}
-use Rattle.wire.specs.declared.verdict.Verdict.TheVariants.{Fine, Refused}
 use Rattle.wire.proofs.Among.{listed, Among, Never, never-past, never-behind}
 use Rattle.wire.proofs.Verdicts.{row-says, then-assoc, go_on, refused-then}
 use Rattle.link_draft.specs.Checks.{first_in}
 use Rattle.link_draft.specs.Carried.{Each}
 use Rattle.link_draft.proofs.Rows.{each-pass}
+use Rattle.std.specs.Prelude.{Err, Ok}
 
 -- ---- one row
 
@@ -35,8 +34,8 @@ only_row b n f g m p q e = sym (row-says b n f g m p q e).0
 
 pub only_then : (n : ℕ) (v w : Verdict) → Only n v → Only n w → Only n (v ▷ w)
 unfolding ◌▷◌
-only_then n Fine w p q = q
-only_then n (Refused r) w p q = p
+only_then n (Ok _) w p q = q
+only_then n (Err r) w p q = p
 
 pub only-first : {A : Type 0} (n : ℕ) (f : A → Verdict) → ((x : A) → Only n (f x)) → (xs : List A) → Only n (first_in f xs)
 unfolding first_in
@@ -56,8 +55,8 @@ module _ (n m f g : ℕ) (other : m ≡ n → ⊥) where
 
   pub only-between : (u v w : Verdict) → Only n v → u ▷ v ▷ w ≡ bad m f g → u ▷ w ≡ bad m f g
   unfolding ◌▷◌
-  only-between Fine v w o e = (only-past v w o e).1
-  only-between (Refused r) v w o e = e
+  only-between (Ok _) v w o e = (only-past v w o e).1
+  only-between (Err r) v w o e = e
 
   pub only-behind : (v w : Verdict) → Only n w → v ▷ w ≡ bad m f g → v ≡ bad m f g
   only-behind v w o = never-behind m f g v w (only-never w o)
@@ -90,7 +89,7 @@ pub record FirstTold {A : Type 0} (P : A → Type 0) (f : A → Verdict) (xs : L
   pub told : f it ≡ v
 
 module _ {A : Type 0} {P : A → Type 0} (f : A → Verdict) (passed : (x : A) → f x ≡ Fine → P x) (pass : (x : A) → P x → f x ≡ Fine) where
-  refused-not : (x : A) (r : Refusal) → f x ≡ Refused r → P x → ⊥
+  refused-not : (x : A) (r : Refusal) → f x ≡ Err r → P x → ⊥
   refused-not x r e p = let q = pass x p in let z : ◌≡◌ {A = ℕ} 0 1 = cc in omega arith
 
   told-past : (x : A) (xs : List A) (v : Verdict) → f x ≡ Fine → FirstTold P f xs v → FirstTold P f (x ∷ xs) v
@@ -102,16 +101,16 @@ module _ {A : Type 0} {P : A → Type 0} (f : A → Verdict) (passed : (x : A) �
         told = t.told;
       }
 
-  pub first-told : (xs : List A) (r : Refusal) → first_in f xs ≡ Refused r → FirstTold P f xs (Refused r)
+  pub first-told : (xs : List A) (r : Refusal) → first_in f xs ≡ Err r → FirstTold P f xs (Err r)
   unfolding first_in ◌▷◌
   first-told [] r e = let z : ◌≡◌ {A = ℕ} 0 1 = cc in absurd (omega arith)
   first-told (x ∷ xs) r e = by (f x) refl e (λ q. first-told xs r q)
     where
-      by : (v : Verdict) → f x ≡ v → v ▷ first_in f xs ≡ Refused r → (first_in f xs ≡ Refused r → FirstTold P f xs (Refused r)) → FirstTold P f (x ∷ xs) (Refused r)
-      by Fine p q rest = told-past x xs (Refused r) p (rest q)
-      by (Refused s) p q rest = record { it = x; first = record { before = []; behind = xs; order = refl; good = tt; bad = refused-not x s p }; told = p ∙ q }
+      by : (v : Verdict) → f x ≡ v → v ▷ first_in f xs ≡ Err r → (first_in f xs ≡ Err r → FirstTold P f xs (Err r)) → FirstTold P f (x ∷ xs) (Err r)
+      by (Ok _) p q rest = told-past x xs (Err r) p (rest q)
+      by (Err s) p q rest = record { it = x; first = record { before = []; behind = xs; order = refl; good = tt; bad = refused-not x s p }; told = p ∙ q }
 
-  pub first-tells : (xs : List A) (x : A) (r : Refusal) → First P xs x → f x ≡ Refused r → first_in f xs ≡ Refused r
+  pub first-tells : (xs : List A) (x : A) (r : Refusal) → First P xs x → f x ≡ Err r → first_in f xs ≡ Err r
   unfolding first_in
   first-tells xs x r g e =
       ap (first_in f) g.order

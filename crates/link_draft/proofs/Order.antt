@@ -8,15 +8,12 @@ use mathlib.Core.List.{List}
 use native.Mathlib.Omega.{arith}
 use lib.ListN.{length}
 use Rattle.wire.specs.Refusals.{too_wide, against_type, against_rule, past_text}
-use Rattle.wire.specs.Verdict.{bad, refuse, ◌▷◌}
-use Rattle.wire.specs.declared.verdict.Verdict.TheVariants.{Fine}
+use Rattle.wire.specs.Verdict.{bad, refuse, ◌▷◌, Fine}
 use Rattle.wire.proofs.Verdicts.{then-fine, fine-then, go_on, stop, row-says, agree-passed, agree-pass}
 use Rattle.field.specs.Fields.{check_field}
 use Rattle.locator.specs.Checks as checks
 use Rattle.link.specs.declared.Range.{Range}
 use Rattle.link.specs.declared.LinkFields.{LinkFields}
-use Rattle.link.specs.declared.LinkLocator.{LinkLocator}
-use Rattle.link.specs.declared.LinkLocator.TheVariants as locator
 use Rattle.link.specs.declared.LinkInfo.{LinkInfo}
 use Rattle.locator.proofs.Checked.{windows-ruled, ruled-windows}
 use Rattle.link_draft.specs.Checks.{check_presence, check_fields, check_locator_rule, check_range, check_ranges, check_link}
@@ -25,6 +22,8 @@ use Rattle.link_draft.specs.Order.{Agrees, Numbered, Held, present_fields, RuleK
 use Rattle.link_draft.proofs.Rows.{range-passed, range-pass, each-passed, each-pass}
 use Rattle.link_draft.proofs.Firsts.{row-refuses, Only, only-fine, only_row, only_then, only-first, only-past, only-between, only-behind, First, first-told, first-tells}
 use Rattle.link_draft.proofs.Ranking.{check_numbered, numbered-passed, numbered-pass, fields-rows, ranges-rows, lower-held}
+use Rattle.link.specs.Options.{LinkLocator}
+use Rattle.std.specs.Prelude.{None, Some}
 
 fine-not : (n f g : ℕ) → Fine ≡ bad n f g → ⊥
 fine-not n f g e = let z : ◌≡◌ {A = ℕ} 0 1 = cc in omega arith
@@ -68,28 +67,28 @@ module _ (k : LinkInfo) where
 
 rule-passed : (m : LinkLocator) → check_locator_rule m ≡ Fine → RuleKept m
 unfolding check_locator_rule
-rule-passed locator.Absent e = tt
-rule-passed (locator.Present l) e = windows-ruled l e
+rule-passed None e = tt
+rule-passed (Some l) e = windows-ruled l e
 
 rule-pass : (m : LinkLocator) → RuleKept m → check_locator_rule m ≡ Fine
 unfolding check_locator_rule
-rule-pass locator.Absent r = refl
-rule-pass (locator.Present l) r = ruled-windows l r
+rule-pass None r = refl
+rule-pass (Some l) r = ruled-windows l r
 
 pub rule-only : (m : LinkLocator) → Only against_rule (check_locator_rule m)
 unfolding check_locator_rule checks.check_windows
-rule-only locator.Absent = only-fine against_rule
-rule-only (locator.Present l) = only_row _ against_rule _ _
+rule-only None = only-fine against_rule
+rule-only (Some l) = only_row _ against_rule _ _
 
 rule-says : (m : LinkLocator) (f g : ℕ) → check_locator_rule m ≡ bad against_rule f g → (f ≡ 0) × (g ≡ 0)
 unfolding check_locator_rule checks.check_windows
-rule-says locator.Absent f g e = absurd (fine-not against_rule f g e)
-rule-says (locator.Present l) f g e = let two = (row-says _ against_rule 0 0 against_rule f g e).1 in (sym two.0, sym two.1)
+rule-says None f g e = absurd (fine-not against_rule f g e)
+rule-says (Some l) f g e = let two = (row-says _ against_rule 0 0 against_rule f g e).1 in (sym two.0, sym two.1)
 
 rule-tells : (m : LinkLocator) → (RuleKept m → ⊥) → check_locator_rule m ≡ bad against_rule 0 0
 unfolding check_locator_rule checks.check_windows
-rule-tells locator.Absent h = absurd (h tt)
-rule-tells (locator.Present l) h = row-refuses _ against_rule 0 0 (λ e. h (windows-ruled l e))
+rule-tells None h = absurd (h tt)
+rule-tells (Some l) h = row-refuses _ against_rule 0 0 (λ e. h (windows-ruled l e))
 
 pub ranges-only : (have : ℕ) (k : LinkInfo) → Only past_text (check_ranges have k)
 unfolding check_range
@@ -216,7 +215,7 @@ module _ (t : List ℕ) (k : LinkInfo) where
 
 -- ---- the accident that the first row is for: a link of type 1 without locator never passes
 
-pub type1-needs-locator : (t : List ℕ) (k : LinkInfo) → k.fields.link_type ≡ 1 → k.fields.dvb_binary_locator ≡ locator.Absent → check_link t k ≡ bad against_type 1 0
+pub type1-needs-locator : (t : List ℕ) (k : LinkInfo) → k.fields.link_type ≡ 1 → k.fields.dvb_binary_locator ≡ None → check_link t k ≡ bad against_type 1 0
 type1-needs-locator t k a b = type-refuses t k against ∙ ap (λ n. bad against_type n 0) a
   where
     against : Agrees k.fields → ⊥

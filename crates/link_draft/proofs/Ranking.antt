@@ -7,27 +7,22 @@ use mathlib.Core.List.{List, [], ◌∷◌, ◌++◌, map}
 use native.Mathlib.Omega.{arith}
 use Rattle.field.specs.Fields.{start_date, locator_reserved, check_field}
 use Rattle.field.proofs.Checks.{field-passed, field-pass}
-use Rattle.wire.specs.Verdict.{◌▷◌}
-use Rattle.wire.specs.declared.verdict.Verdict.{Verdict}
-use Rattle.wire.specs.declared.verdict.Verdict.TheVariants.{Fine}
+use Rattle.wire.specs.Verdict.{◌▷◌, Fine, Verdict}
 use Rattle.wire.proofs.Verdicts.{then-nothing}
 use Rattle.locator.specs.Checks as checks
 use Rattle.locator.specs.declared.DvbLocatorService.{DvbLocatorService}
 use Rattle.locator.specs.declared.DvbLocatorService.TheVariants.{Triplet, Full}
-use Rattle.locator.specs.declared.DvbLocatorWindows.{DvbLocatorWindows}
-use Rattle.locator.specs.declared.DvbLocatorWindows.TheVariants as windows
 use Rattle.link.specs.Records.{items_of}
 use Rattle.link.specs.declared.LinkItem.{LinkItem}
-use Rattle.link.specs.declared.MediaUri.{MediaUri}
-use Rattle.link.specs.declared.MediaUri.TheVariants as uri
-use Rattle.link.specs.declared.LinkLocator.{LinkLocator}
-use Rattle.link.specs.declared.LinkLocator.TheVariants as locator
 use Rattle.link.specs.declared.LinkFields.{LinkFields}
 use Rattle.link.specs.declared.LinkInfo.{LinkInfo}
 use Rattle.link_draft.specs.Checks.{first_in, check_head, check_uri, check_locator_fields, check_count, check_end, check_fields, check_range, check_uri_range, check_ranges}
 use Rattle.link_draft.specs.Carried.{Each}
 use Rattle.link_draft.specs.Order.{Numbered, ◌≔◌, Held, head_numbers, uri_numbers, service_numbers, windows_numbers, locator_numbers, count_numbers, text_number, end_numbers, present_fields, uri_ranges, text_range, present_ranges, Rising}
 use Rattle.link_draft.proofs.Firsts.{First, first-append, first-map}
+use Rattle.link.specs.Options.{LinkLocator, MediaUri}
+use Rattle.locator.specs.Windows.{Windows}
+use Rattle.std.specs.Prelude.{None, Some}
 
 -- ---- the rows
 
@@ -53,23 +48,23 @@ head_rows f = rw last
 
 uri-rows : (u : MediaUri) → check_uri u ≡ first_in check_numbered (uri_numbers u)
 unfolding check_uri first_in
-uri-rows uri.Absent = refl
-uri-rows (uri.Present r) = rw last
+uri-rows None = refl
+uri-rows (Some r) = rw last
 
 service-rows : (s : DvbLocatorService) → checks.check_service s ≡ first_in check_numbered (service_numbers s)
 unfolding first_in
 service-rows (Triplet t) = rw last
 service-rows (Full r ts on sv) = rw last
 
-windows-rows : (w : DvbLocatorWindows) → checks.check_widths w ≡ first_in check_numbered (windows_numbers w)
+windows-rows : (w : Windows) → checks.check_widths w ≡ first_in check_numbered (windows_numbers w)
 unfolding first_in
-windows-rows windows.Absent = refl
-windows-rows (windows.Present e a) = rw last
+windows-rows None = refl
+windows-rows (Some w) = rw last
 
 locator-rows : (m : LinkLocator) → check_locator_fields m ≡ first_in check_numbered (locator_numbers m)
 unfolding check_locator_fields checks.check_fields first_in
-locator-rows locator.Absent = refl
-locator-rows (locator.Present l) =
+locator-rows None = refl
+locator-rows (Some l) =
     let both = rows_then check_numbered _ _ (service_numbers l.service) (windows_numbers l.windows) (service-rows l.service) (windows-rows l.windows) in
     ap (λ v. check_numbered (start_date ≔ l.start_date) ▷ (check_numbered (locator_reserved ≔ l.reserved) ▷ v)) both
 
@@ -95,8 +90,8 @@ fields-rows k =
 
 uri-range-rows : (have : ℕ) (u : MediaUri) → check_uri_range have u ≡ first_in (check_range have) (uri_ranges u)
 unfolding check_uri_range first_in
-uri-range-rows have uri.Absent = refl
-uri-range-rows have (uri.Present r) = rw last
+uri-range-rows have None = refl
+uri-range-rows have (Some r) = rw last
 
 pub ranges-rows : (have : ℕ) (k : LinkInfo) → check_ranges have k ≡ first_in (check_range have) (present_ranges k)
 unfolding check_ranges present_ranges first_in
@@ -124,22 +119,22 @@ head-rising f = (omega arith, (omega arith, (omega arith, (omega arith, (omega a
 
 uri-rising : (u : MediaUri) → Rising 7 8 (uri_numbers u)
 unfolding Rising
-uri-rising uri.Absent = omega arith
-uri-rising (uri.Present r) = (omega arith, omega arith)
+uri-rising None = omega arith
+uri-rising (Some r) = (omega arith, omega arith)
 
 locator-rising : (m : LinkLocator) → Rising 8 14 (locator_numbers m)
 unfolding Rising
-locator-rising locator.Absent = omega arith
-locator-rising (locator.Present l) =
+locator-rising None = omega arith
+locator-rising (Some l) =
     (omega arith, (omega arith, rising-then 9 12 14 (service_numbers l.service) (windows_numbers l.windows) (service l.service) (widths l.windows)))
   where
     service : (s : DvbLocatorService) → Rising 9 12 (service_numbers s)
     service (Triplet t) = (omega arith, omega arith)
     service (Full r ts on sv) = (omega arith, omega arith)
 
-    widths : (w : DvbLocatorWindows) → Rising 12 14 (windows_numbers w)
-    widths windows.Absent = omega arith
-    widths (windows.Present e a) = (omega arith, (omega arith, omega arith))
+    widths : (w : Windows) → Rising 12 14 (windows_numbers w)
+    widths None = omega arith
+    widths (Some w) = (omega arith, (omega arith, omega arith))
 
 texts-rising : (is : List LinkItem) → Rising 16 17 (map text_number is)
 unfolding Rising

@@ -5,12 +5,11 @@ use mathlib.Core.Path.{◌≡◌, refl}
 use mathlib.Core.List.{List, [], ◌∷◌}
 use lib.ListN.{length, take}
 use Rattle.wire.specs.Refusals.{past_text}
-use Rattle.wire.specs.declared.verdict.Verdict.{Verdict}
-use Rattle.wire.specs.declared.verdict.Verdict.TheVariants.{Fine}
 use Rattle.wire.proofs.Verdicts.{then-fine, fine-then, passed-ltb, pass-ltb}
 use Rattle.link.specs.declared.Range.{Range}
 use Rattle.link_draft.specs.Checks.{first_in, check_range}
 use Rattle.link_draft.specs.Carried.{Each, Within}
+use Rattle.wire.specs.Verdict.{Fine, Verdict}
 
 pub range-passed : (t : List ℕ) (r : Range) → check_range (length t) r ≡ Fine → Within t r
 unfolding check_range

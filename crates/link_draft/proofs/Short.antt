@@ -7,21 +7,19 @@ use native.Mathlib.Omega.{arith}
 use lib.ListN.{length, length-take}
 use Rattle.field.specs.Fields.{uri_length, number_items, text_length}
 use Rattle.field.proofs.Checks.{field-passed}
-use Rattle.wire.specs.declared.verdict.Verdict.TheVariants.{Fine}
 use Rattle.wire.proofs.Verdicts.{then-fine}
 use Rattle.locator.specs.Writing.{longest_written}
 use Rattle.locator.proofs.Written.{length_most}
 use Rattle.link.specs.Syntax.{uri_head, item_head}
 use Rattle.link.specs.Records.{items_of}
 use Rattle.link.specs.declared.LinkItem.{LinkItem}
-use Rattle.link.specs.declared.MediaUri.{MediaUri}
-use Rattle.link.specs.declared.MediaUri.TheVariants as uri
-use Rattle.link.specs.declared.LinkLocator.{LinkLocator}
-use Rattle.link.specs.declared.LinkLocator.TheVariants as locator
 use Rattle.link.specs.declared.LinkInfo.{LinkInfo}
 use Rattle.link_draft.specs.Checks.{first_in, check_uri, check_text, check_link}
 use Rattle.link_draft.specs.Lengths.{uri_size, locator_size, items_size, link_length}
 use Rattle.link_draft.proofs.Exact.{passed}
+use Rattle.link.specs.Options.{LinkLocator, MediaUri}
+use Rattle.std.specs.Prelude.{None, Some}
+use Rattle.wire.specs.Verdict.{Fine}
 
 items-short : (is : List LinkItem) → first_in check_text is ≡ Fine → items_size is ≤ length is * (item_head + text_length.widest)
 unfolding first_in items_size
@@ -32,14 +30,14 @@ items-short (i ∷ is) e =
 
 uri-short : (u : MediaUri) → check_uri u ≡ Fine → uri_size u ≤ uri_head + uri_length.widest
 unfolding check_uri uri_size
-uri-short uri.Absent e = omega arith
-uri-short (uri.Present r) e = omega (arith, field-passed uri_length r.length e)
+uri-short None e = omega arith
+uri-short (Some r) e = omega (arith, field-passed uri_length r.length e)
 
 -- whatever the locator
 locator-size-short : (m : LinkLocator) → locator_size m ≤ longest_written
 unfolding locator_size
-locator-size-short locator.Absent = omega arith
-locator-size-short (locator.Present l) = length_most l
+locator-size-short None = omega arith
+locator-size-short (Some l) = length_most l
 
 -- its length is a number of 16 bits, so that sums with lengths of a section stay far below a word
 pub checked-short : (t : List ℕ) (k : LinkInfo) → check_link t k ≡ Fine → link_length k < 65536

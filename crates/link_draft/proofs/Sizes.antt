@@ -13,13 +13,11 @@ use Rattle.link.specs.Syntax.{item_head, field_bytes, uri_bytes, locator_part, i
 use Rattle.link.specs.Records.{range_of, item_of, uri_of, locator_of, items_of, link_of}
 use Rattle.link.specs.declared.Range.{Range}
 use Rattle.link.specs.declared.LinkItem.{LinkItem}
-use Rattle.link.specs.declared.MediaUri.{MediaUri}
-use Rattle.link.specs.declared.MediaUri.TheVariants as uri
-use Rattle.link.specs.declared.LinkLocator.{LinkLocator}
-use Rattle.link.specs.declared.LinkLocator.TheVariants as locator
 use Rattle.link.specs.declared.LinkInfo.{LinkInfo}
 use Rattle.link_draft.specs.Lengths.{uri_size, locator_size, items_size, link_length}
 use Rattle.link_draft.specs.Carried.{Each, Within, UriWithin, TextWithin, RangesWithin}
+use Rattle.link.specs.Options.{LinkLocator, MediaUri}
+use Rattle.std.specs.Prelude.{None, Some}
 
 -- a range that lies in the text has as many bytes as it says
 pub range_length : (t : List ℕ) (r : Range) → Within t r → length (range_of t r) ≡ r.length
@@ -27,13 +25,13 @@ range_length t r h = length_part t r.start r.length h
 
 uri-length : (t : List ℕ) (u : MediaUri) → UriWithin t u → length (uri_bytes (uri_of t u)) ≡ uri_size u
 unfolding uri_bytes uri_size
-uri-length t uri.Absent w = refl
-uri-length t (uri.Present r) w = omega (arith, range_length t r w)
+uri-length t None w = refl
+uri-length t (Some r) w = omega (arith, range_length t r w)
 
 locator-length : (m : LinkLocator) → length (locator_part (locator_of m)) ≡ locator_size m
 unfolding locator_part locator_size
-locator-length locator.Absent = refl
-locator-length (locator.Present l) = bytes-length l
+locator-length None = refl
+locator-length (Some l) = bytes-length l
 
 item-length : (t : List ℕ) (i : LinkItem) → TextWithin t i → length (item_bytes (item_of t i)) ≡ item_head + i.promotional_text.length
 unfolding item_bytes

@@ -9,14 +9,12 @@ use lib.ListN.{length, take, drop}
 use lib.Seq.{sets, take_at}
 use Rattle.wire.specs.Lists.{Bytes, part}
 use Rattle.wire.specs.Refusals.{against_type}
-use Rattle.wire.specs.Verdict.{bad}
-use Rattle.wire.specs.declared.verdict.Verdict.TheVariants.{Fine}
+use Rattle.wire.specs.Verdict.{bad, Fine}
 use Rattle.byte_stores.proofs.Writing.{sets-from}
 use Rattle.link.specs.Syntax.{link_body}
 use Rattle.link.specs.Reading.{body_verdict, link_at}
 use Rattle.link.specs.Records.{link_of}
 use Rattle.link.specs.declared.LinkInfo.{LinkInfo}
-use Rattle.link.specs.declared.LinkLocator.TheVariants as locator
 use Rattle.link.proofs.Laws.{link-back}
 use Rattle.link_draft.specs.Checks.{check_link}
 use Rattle.link_draft.specs.Lengths.{link_length}
@@ -27,6 +25,7 @@ use Rattle.link_draft.proofs.Exact.{passed, check-fits}
 use Rattle.link_draft.proofs.Parts.{all-length, all_room, all-before, all-behind}
 use Rattle.link_draft.proofs.Bodies.{parts-flat, parts-few}
 use Rattle.link_draft.proofs.Order.{type1-needs-locator}
+use Rattle.std.specs.Prelude.{None}
 
 -- a body that is accepted, and reads as the link that the record k stands for with the text t
 pub record Accepted (t : List ℕ) (k : LinkInfo) (xs : List ℕ) : Type 0 where
@@ -74,7 +73,7 @@ module _ (b : List ℕ) (at : ℕ) (t : List ℕ) (k : LinkInfo) where
 
 -- ---- a link of type 1 without locator does not pass, so nobody who checks first writes it
 
-pub type1-not-written : (t : List ℕ) (k : LinkInfo) → k.fields.link_type ≡ 1 → k.fields.dvb_binary_locator ≡ locator.Absent → check_link t k ≡ Fine → ⊥
+pub type1-not-written : (t : List ℕ) (k : LinkInfo) → k.fields.link_type ≡ 1 → k.fields.dvb_binary_locator ≡ None → check_link t k ≡ Fine → ⊥
 type1-not-written t k a b e =
     let refused : Fine ≡ bad against_type 1 0 = sym e ∙ type1-needs-locator t k a b in
     let z : ◌≡◌ {A = ℕ} 0 1 = cc in

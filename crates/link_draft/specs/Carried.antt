@@ -1,18 +1,15 @@
 -- What is known of a record besides its checks: what the code's types say of it, as far as its link's bytes need it, and
 -- that it stands for a link with a text, which holds every range and no more items than the record's array.
 -- Assumes nothing.
-use Rattle.std.specs.Prelude.{ℕ, ◌+◌, ◌≤◌, ◌<◌, List, [], ◌∷◌, length}
+use Rattle.std.specs.Prelude.{ℕ, ◌+◌, ◌≤◌, ◌<◌, List, [], ◌∷◌, length, None, Some}
 use Rattle.field.specs.Fields.{how_related, term_id, link_type, link_type_reserved, group_id, precedence, number_items, descriptor_length, icon_id, link_length_reserved}
 use Rattle.locator.specs.Syntax as syntax
 use Rattle.link.specs.Records.{items_of}
 use Rattle.link.specs.declared.Range.{Range}
 use Rattle.link.specs.declared.LinkItem.{LinkItem}
-use Rattle.link.specs.declared.MediaUri.{MediaUri}
-use Rattle.link.specs.declared.MediaUri.TheVariants as uri
-use Rattle.link.specs.declared.LinkLocator.{LinkLocator}
-use Rattle.link.specs.declared.LinkLocator.TheVariants as locator
 use Rattle.link.specs.declared.LinkFields.{LinkFields}
 use Rattle.link.specs.declared.LinkInfo.{LinkInfo}
+use Rattle.link.specs.Options.{LinkLocator, MediaUri}
 
 abbrev pub Each : {A : Type 0} → (A → Type 0) → List A → Type 0
 Each P [] = Unit {0}
@@ -26,8 +23,8 @@ pub record ItemCarried (i : LinkItem) : Type 0 where
   pub third : i.language_code.third < 256
 
 abbrev pub LocatorCarried : LinkLocator → Type 0
-LocatorCarried locator.Absent = Unit
-LocatorCarried (locator.Present l) = syntax.Carried l
+LocatorCarried None = Unit
+LocatorCarried (Some l) = syntax.Carried l
 
 pub record Carried (k : LinkInfo) : Type 0 where
   pub locator : LocatorCarried k.fields.dvb_binary_locator
@@ -54,8 +51,8 @@ abbrev pub Within : List ℕ → Range → Type 0
 Within t r = r.start + r.length ≤ length t
 
 abbrev pub UriWithin : List ℕ → MediaUri → Type 0
-UriWithin t uri.Absent = Unit
-UriWithin t (uri.Present r) = Within t r
+UriWithin t None = Unit
+UriWithin t (Some r) = Within t r
 
 abbrev pub TextWithin : List ℕ → LinkItem → Type 0
 TextWithin t i = Within t i.promotional_text

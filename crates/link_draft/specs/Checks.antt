@@ -1,26 +1,21 @@
 -- What is checked of a link's record before it is written: refusals 23, 22, 24 and 25, in this order. Fields that are
 -- absent are not checked.
 -- Assumes nothing.
-use Rattle.std.specs.Prelude.{ℕ, ◌+◌, Bool, true, false, List, [], ◌∷◌, ltb, length}
+use Rattle.std.specs.Prelude.{ℕ, ◌+◌, Bool, true, false, List, [], ◌∷◌, ltb, length, None, Some}
 use Rattle.std.specs.Bool.{xor}
 use Rattle.field.specs.Fields.{how_related, term_id, link_type, link_type_reserved, group_id, precedence, uri_length, number_items, number_items_reserved, text_length, descriptor_length, icon_id, link_length_reserved, check_field}
 use Rattle.wire.specs.Refusals.{against_type, past_text}
-use Rattle.wire.specs.Verdict.{refuse, ◌▷◌}
-use Rattle.wire.specs.declared.verdict.Verdict.{Verdict}
-use Rattle.wire.specs.declared.verdict.Verdict.TheVariants.{Fine}
+use Rattle.wire.specs.Verdict.{refuse, ◌▷◌, Fine, Verdict}
 use Rattle.locator.specs.Checks as checks
 use Rattle.link.specs.Syntax.{uri_due, locator_due}
 use Rattle.link.specs.Records.{items_of}
 use Rattle.link.specs.declared.Range.{Range}
 use Rattle.link.specs.declared.LinkItem.{LinkItem}
-use Rattle.link.specs.declared.MediaUri.{MediaUri}
-use Rattle.link.specs.declared.MediaUri.TheVariants as uri
-use Rattle.link.specs.declared.LinkLocator.{LinkLocator}
-use Rattle.link.specs.declared.LinkLocator.TheVariants as locator
 use Rattle.link.specs.declared.LinkFields.{LinkFields}
 use Rattle.link.specs.declared.LinkInfo.{LinkInfo}
 use Rattle.link_draft.specs.Lengths.{link_length}
 use Rattle.link_draft.specs.declared.LinkChecked.{LinkChecked}
+use Rattle.link.specs.Options.{LinkLocator, MediaUri}
 
 -- of the verdicts of a list's elements the first that refuses
 unfoldable pub first_in : {A : Type 0} → (A → Verdict) → List A → Verdict
@@ -30,12 +25,12 @@ first_in f (x ∷ xs) = f x ▷ first_in f xs
 -- ---- 23: URI or locator present against the link type, or missing
 
 abbrev pub uri_here : MediaUri → Bool
-uri_here uri.Absent = false
-uri_here (uri.Present r) = true
+uri_here None = false
+uri_here (Some r) = true
 
 abbrev pub locator_here : LinkLocator → Bool
-locator_here locator.Absent = false
-locator_here (locator.Present l) = true
+locator_here None = false
+locator_here (Some l) = true
 
 unfoldable pub check_presence : LinkFields → Verdict
 check_presence f =
@@ -56,13 +51,13 @@ check_head f =
 
 -- rank 7
 unfoldable pub check_uri : MediaUri → Verdict
-check_uri uri.Absent = Fine
-check_uri (uri.Present r) = check_field uri_length r.length
+check_uri None = Fine
+check_uri (Some r) = check_field uri_length r.length
 
 -- ranks 8 to 13
 unfoldable pub check_locator_fields : LinkLocator → Verdict
-check_locator_fields locator.Absent = Fine
-check_locator_fields (locator.Present l) = checks.check_fields l
+check_locator_fields None = Fine
+check_locator_fields (Some l) = checks.check_fields l
 
 -- ranks 14 and 15: a count above what a record holds answers before any item is looked at
 unfoldable pub check_count : LinkFields → Verdict
@@ -87,8 +82,8 @@ check_fields k =
 -- ---- 24: windows present against the rule, or missing
 
 unfoldable pub check_locator_rule : LinkLocator → Verdict
-check_locator_rule locator.Absent = Fine
-check_locator_rule (locator.Present l) = checks.check_windows l
+check_locator_rule None = Fine
+check_locator_rule (Some l) = checks.check_windows l
 
 -- ---- 25: the first range whose start + length is above the length of the text
 
@@ -96,8 +91,8 @@ unfoldable pub check_range : ℕ → Range → Verdict
 check_range have r = refuse (ltb have (r.start + r.length)) past_text r.start r.length
 
 unfoldable pub check_uri_range : ℕ → MediaUri → Verdict
-check_uri_range have uri.Absent = Fine
-check_uri_range have (uri.Present r) = check_range have r
+check_uri_range have None = Fine
+check_uri_range have (Some r) = check_range have r
 
 abbrev pub check_text_range : ℕ → LinkItem → Verdict
 check_text_range have i = check_range have i.promotional_text

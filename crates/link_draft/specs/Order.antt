@@ -2,25 +2,21 @@
 -- that the record has and their numbers, the rule on windows, and the ranges ("of several too wide the lowest place
 -- answers, items in order; of several ranges past the text the URI's, then the items', then the descriptors'").
 -- Assumes nothing.
-use Rattle.std.specs.Prelude.{ℕ, ◌≤◌, ◌≡◌, List, [], ◌∷◌, ◌++◌, map}
+use Rattle.std.specs.Prelude.{ℕ, ◌≤◌, ◌≡◌, List, [], ◌∷◌, ◌++◌, map, None, Some}
 use Rattle.field.specs.Fields.{how_related, term_id, link_type, link_type_reserved, group_id, precedence, uri_length, start_date, locator_reserved, triplet_id, inline_reserved, early_start, late_end, number_items, number_items_reserved, text_length, descriptor_length, icon_id, link_length_reserved}
 use Rattle.field.specs.declared.Field.{Field}
 use Rattle.locator.specs.Syntax.{Ruled}
 use Rattle.locator.specs.declared.DvbLocatorService.{DvbLocatorService}
 use Rattle.locator.specs.declared.DvbLocatorService.TheVariants.{Triplet, Full}
-use Rattle.locator.specs.declared.DvbLocatorWindows.{DvbLocatorWindows}
-use Rattle.locator.specs.declared.DvbLocatorWindows.TheVariants as windows
 use Rattle.link.specs.Syntax.{uri_due, locator_due}
 use Rattle.link.specs.Records.{items_of}
 use Rattle.link.specs.declared.Range.{Range}
 use Rattle.link.specs.declared.LinkItem.{LinkItem}
-use Rattle.link.specs.declared.MediaUri.{MediaUri}
-use Rattle.link.specs.declared.MediaUri.TheVariants as uri
-use Rattle.link.specs.declared.LinkLocator.{LinkLocator}
-use Rattle.link.specs.declared.LinkLocator.TheVariants as locator
 use Rattle.link.specs.declared.LinkFields.{LinkFields}
 use Rattle.link.specs.declared.LinkInfo.{LinkInfo}
 use Rattle.link_draft.specs.Checks.{uri_here, locator_here}
+use Rattle.link.specs.Options.{LinkLocator, MediaUri}
+use Rattle.locator.specs.Windows.{Windows}
 
 -- ---- 23: there is a URI, and a locator, exactly if the link type has one
 
@@ -53,20 +49,20 @@ head_numbers f =
     ∷ []
 
 abbrev pub uri_numbers : MediaUri → List Numbered
-uri_numbers uri.Absent = []
-uri_numbers (uri.Present r) = uri_length ≔ r.length ∷ []
+uri_numbers None = []
+uri_numbers (Some r) = uri_length ≔ r.length ∷ []
 
 abbrev pub service_numbers : DvbLocatorService → List Numbered
 service_numbers (Triplet t) = triplet_id ≔ t ∷ []
 service_numbers (Full r ts on sv) = inline_reserved ≔ r ∷ []
 
-abbrev pub windows_numbers : DvbLocatorWindows → List Numbered
-windows_numbers windows.Absent = []
-windows_numbers (windows.Present e a) = early_start ≔ e ∷ late_end ≔ a ∷ []
+abbrev pub windows_numbers : Windows → List Numbered
+windows_numbers None = []
+windows_numbers (Some w) = early_start ≔ w.early_start_window ∷ late_end ≔ w.late_end_window ∷ []
 
 abbrev pub locator_numbers : LinkLocator → List Numbered
-locator_numbers locator.Absent = []
-locator_numbers (locator.Present l) = start_date ≔ l.start_date ∷ locator_reserved ≔ l.reserved ∷ (service_numbers l.service ++ windows_numbers l.windows)
+locator_numbers None = []
+locator_numbers (Some l) = start_date ≔ l.start_date ∷ locator_reserved ≔ l.reserved ∷ (service_numbers l.service ++ windows_numbers l.windows)
 
 abbrev pub count_numbers : LinkFields → List Numbered
 count_numbers f = number_items ≔ f.number_items ∷ number_items_reserved ≔ f.reserved_number_items ∷ []
@@ -90,14 +86,14 @@ Rising p q (x ∷ xs) = (p ≤ x.field.rank) × Rising x.field.rank q xs
 -- ---- 24: windows are there exactly if they are due
 
 abbrev pub RuleKept : LinkLocator → Type 0
-RuleKept locator.Absent = Unit
-RuleKept (locator.Present l) = Ruled l
+RuleKept None = Unit
+RuleKept (Some l) = Ruled l
 
 -- ---- 25: the ranges
 
 abbrev pub uri_ranges : MediaUri → List Range
-uri_ranges uri.Absent = []
-uri_ranges (uri.Present r) = r ∷ []
+uri_ranges None = []
+uri_ranges (Some r) = r ∷ []
 
 abbrev pub text_range : LinkItem → Range
 text_range i = i.promotional_text

@@ -2,7 +2,7 @@
 -- where there is room for all of it. Nothing is checked here: of a number that is too wide for its field the lowest bits
 -- are written, and of a range that goes past the text nothing.
 -- Assumes nothing.
-use Rattle.std.specs.Prelude.{ℕ, ◌+◌, ◌*◌, List, [], ◌∷◌, ◌++◌, length}
+use Rattle.std.specs.Prelude.{ℕ, ◌+◌, ◌*◌, List, [], ◌∷◌, ◌++◌, length, None, Some}
 use Rattle.wire.specs.Choice.{bit}
 use Rattle.length_field.specs.Lengths.{length_bytes}
 use Rattle.spans.specs.Spans.{span, span_of, span_in}
@@ -14,12 +14,9 @@ use Rattle.link.specs.Syntax.{field_bytes}
 use Rattle.link.specs.Records.{items_of, link_of}
 use Rattle.link.specs.declared.Range.{Range}
 use Rattle.link.specs.declared.LinkItem.{LinkItem}
-use Rattle.link.specs.declared.MediaUri.{MediaUri}
-use Rattle.link.specs.declared.MediaUri.TheVariants as uri
-use Rattle.link.specs.declared.LinkLocator.{LinkLocator}
-use Rattle.link.specs.declared.LinkLocator.TheVariants as locator
 use Rattle.link.specs.declared.LinkFields.{LinkFields}
 use Rattle.link.specs.declared.LinkInfo.{LinkInfo}
+use Rattle.link.specs.Options.{LinkLocator, MediaUri}
 
 -- ---- by their lowest bits, and as far as the text has it
 
@@ -58,12 +55,12 @@ abbrev pub headed : List ℕ → List ℕ → Range → List (List ℕ)
 headed t head r = head ∷ range_in t r ∷ []
 
 unfoldable pub uri_parts : List ℕ → MediaUri → List (List ℕ)
-uri_parts t uri.Absent = []
-uri_parts t (uri.Present r) = headed t (low uri_length r.length ∷ []) r
+uri_parts t None = []
+uri_parts t (Some r) = headed t (low uri_length r.length ∷ []) r
 
 unfoldable pub locator_parts : LinkLocator → List (List ℕ)
-locator_parts locator.Absent = []
-locator_parts (locator.Present l) = locator_bytes (writing.narrowed l) ∷ []
+locator_parts None = []
+locator_parts (Some l) = locator_bytes (writing.narrowed l) ∷ []
 
 -- the byte with the number of items, n
 abbrev pub count_bytes : LinkFields → ℕ → List ℕ

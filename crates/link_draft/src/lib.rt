@@ -6,13 +6,14 @@ ghost use Rattle.field.specs.Fields.{number_items};
 ghost use Rattle.link_draft.specs.Checks.{uri_here, locator_here, check_range};
 
 use field::Field;
-use link::{LinkLocator, MediaUri, Range};
-use wire::verdict::{Refusal, Verdict};
+use link::Range;
+use locator::DvbBinaryLocator;
+use wire::verdict::Refusal;
 
 // The verdict of the checks, and the length of the body that the record says, whatever the verdict.
 #[derive(Drop)]
 pub struct LinkChecked {
-    pub verdict: Verdict,
+    pub verdict: Result<(), Refusal>,
     pub length: usize,
 }
 
@@ -29,36 +30,30 @@ pub fn held(count: usize) -> usize
 }
 
 // Whether a record has a URI, and whether it has a locator, whatever its type is.
-pub fn uri_here(uri: MediaUri) -> bool
+pub fn uri_here(uri: Option<Range>) -> bool
     ensures { result ≡ uri_here uri }
 {
-    match uri {
-        MediaUri::Absent => false,
-        MediaUri::Present(_) => true,
-    }
+    uri.is_some()
 }
 
-pub fn locator_here(locator: LinkLocator) -> bool
+pub fn locator_here(locator: Option<DvbBinaryLocator>) -> bool
     ensures { result ≡ locator_here locator }
 {
-    match locator {
-        LinkLocator::Absent => false,
-        LinkLocator::Present(_) => true,
-    }
+    locator.is_some()
 }
 
 // 25 of one range of a text that has `have` bytes: two numbers of 32 bits, so their sum is exact.
-pub fn check_range(have: usize, range: Range) -> Verdict
+pub fn check_range(have: usize, range: Range) -> Result<(), Refusal>
     ensures { result ≡ check_range have range }
 {
     let start = range.start as usize;
     let length = range.length as usize;
     if have < start + length {
-        return Verdict::Refused(Refusal {
+        return Err(Refusal {
             number: Refusal::PAST_TEXT,
             first: start,
             second: length,
         });
     }
-    Verdict::Fine
+    Ok(())
 }

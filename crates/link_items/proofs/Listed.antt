@@ -6,9 +6,9 @@ use mathlib.Core.Bool.{true}
 use mathlib.Core.List.{List}
 use Rattle.wire.specs.declared.verdict.Refusal.{Refusal}
 use Rattle.wire.proofs.Among.{listed}
-use Rattle.link.specs.declared.reading.ItemRead.TheVariants as item
 use Rattle.link.proofs.Listed.{item_reading, item-read-listed}
 use Rattle.link_items.specs.Steps.{stepped}
+use Rattle.std.specs.Prelude.{Err}
 
-pub step-listed : (xs : List ℕ) (n : ℕ) (r : Refusal) → (stepped xs n).item ≡ item.Refused r → listed r.number item_reading ≡ true
+pub step-listed : (xs : List ℕ) (n : ℕ) (r : Refusal) → (stepped xs n).item ≡ Err r → listed r.number item_reading ≡ true
 step-listed xs n = item-read-listed 0 xs n

@@ -2,18 +2,18 @@
 -- and moves on only with that. What it keeps beside the bytes is the number of the next item. Ranges are counted
 -- from the body: base 0.
 -- Assumes nothing.
-use Rattle.std.specs.Prelude.{ℕ, zero, suc, ◌+◌, List, [], ◌∷◌}
+use Rattle.std.specs.Prelude.{ℕ, zero, suc, ◌+◌, List, [], ◌∷◌, Err, Ok, Result}
 use Rattle.std.specs.Borrow.{Bor}
 use Rattle.link.specs.Answers.{item_read}
-use Rattle.link.specs.declared.reading.ItemRead.{ItemRead}
-use Rattle.link.specs.declared.reading.ItemRead.TheVariants as item
 use Rattle.link_items.specs.declared.ItemReader.{ItemReader}
 use Rattle.link_items.specs.declared.Stepped.{Stepped}
+use Rattle.link.specs.declared.LinkItem.{LinkItem}
+use Rattle.wire.specs.declared.verdict.Refusal.{Refusal}
 
 -- the number behind an answer to number n: an item moves it on, a refusal leaves it
-abbrev pub number_behind : ItemRead → ℕ → ℕ
-number_behind (item.Got i) n = n + 1
-number_behind (item.Refused r) n = n
+abbrev pub number_behind : Result LinkItem Refusal → ℕ → ℕ
+number_behind (Ok i) n = n + 1
+number_behind (Err r) n = n
 
 -- the number that is next behind a step to number n, and what the step answers; the base that ranges are counted from is 0
 unfoldable pub moved_from : ℕ → List ℕ → ℕ → ℕ
@@ -49,10 +49,10 @@ reader_after s zero = reader_of s
 reader_after s (suc n) = moved_on (reader_after s n)
 
 -- the answer of the step after them
-abbrev pub item_after : List ℕ → ℕ → ItemRead
+abbrev pub item_after : List ℕ → ℕ → Result LinkItem Refusal
 item_after xs n = item_read 0 xs (number_after xs n)
 
 -- the answers of n steps from number k on, in their order
-unfoldable pub answers : ℕ → List ℕ → ℕ → List ItemRead
+unfoldable pub answers : ℕ → List ℕ → ℕ → List (Result LinkItem Refusal)
 answers zero xs k = []
 answers (suc n) xs k = item_read 0 xs k ∷ answers n xs (moved_to xs k)

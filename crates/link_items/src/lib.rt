@@ -6,7 +6,8 @@ ghost use Rattle.std.specs.Prelude.{◌≡◌};
 ghost use Rattle.link.specs.Answers.{item_read};
 ghost use Rattle.link_items.specs.Steps.{stepped_from, stepped, reader_of, moved_on, item_after};
 
-use link::reading::ItemRead;
+use link::LinkItem;
+use wire::verdict::Refusal;
 
 #[derive(Drop)]
 pub struct ItemReader<'a> {
@@ -17,7 +18,7 @@ pub struct ItemReader<'a> {
 // What a step answers, and the number of the item that is next behind it.
 #[derive(Drop)]
 pub struct Stepped {
-    pub item: ItemRead,
+    pub item: Result<LinkItem, Refusal>,
     pub next: usize,
 }
 
@@ -28,11 +29,11 @@ fn step_at(body: &[u8], base: u16, number: usize) -> Stepped
 {
     let item = link_reader::read_item(body, base, number);
     match item {
-        ItemRead::Got(_) => Stepped {
+        Ok(_) => Stepped {
             item,
             next: number + 1,
         },
-        ItemRead::Refused(_) => Stepped { item, next: number },
+        Err(_) => Stepped { item, next: number },
     }
 }
 
@@ -45,7 +46,7 @@ pub fn items<'a>(body: &'a [u8]) -> ItemReader<'a>
 
 // A step: the reader's next item, or the body's refusals 6 to 16, or 21 past the last item. Only an item moves the reader
 // on, and the bytes stay the same.
-pub fn next<'s, 'a>(r: &'s mut ItemReader<'a>) -> ItemRead
+pub fn next<'s, 'a>(r: &'s mut ItemReader<'a>) -> Result<LinkItem, Refusal>
     ensures { (result ≡ item_read 0 r.old.body.now r.old.next) × (r.new ≡ moved_on r.old) }
 {
     let step = step_at(r.body, 0, r.next);
@@ -68,15 +69,15 @@ pub fn step_from(body: &[u8], number: usize) -> Stepped
 
 // The answer of the step behind `steps` steps from the start. A refused step leaves the reader where it is, so behind it all
 // steps answer the same, and none is taken.
-pub fn item_after(body: &[u8], steps: usize) -> ItemRead
+pub fn item_after(body: &[u8], steps: usize) -> Result<LinkItem, Refusal>
     ensures { result ≡ item_after body.now steps }
 {
     for number in 0..steps {
         let step = step_from(body, number);
         let item = step.item;
         match item {
-            ItemRead::Got(_) => {}
-            ItemRead::Refused(_) => return item,
+            Ok(_) => {}
+            Err(_) => return item,
         }
     }
     let last = step_from(body, steps);

@@ -16,20 +16,19 @@ use Rattle.link_names.proofs.Among.{only-among}
 use Rattle.link_names.specs.declared.Numbers.{Numbers}
 use Rattle.link_names.specs.declared.link_type.LinkType.{LinkType}
 use Rattle.link_names.specs.declared.link_type.LinkType.TheVariants.{UriString, BinaryLocator, Both, Descriptor, DvbReserved}
-use Rattle.link_names.specs.declared.link_type.NamedType.{NamedType}
-use Rattle.link_names.specs.declared.link_type.NamedType.TheVariants.{Known, Nothing}
+use Rattle.std.specs.Prelude.{None, Option, Some}
 
 -- ---- the table, number by number
 
 pub record TypeTable : Type 0 where
-  pub uri : type_of 0 ≡ Known UriString
-  pub locator : type_of 1 ≡ Known BinaryLocator
-  pub both : type_of 2 ≡ Known Both
-  pub descriptor : type_of 3 ≡ Known Descriptor
-  pub reserved : (n : ℕ) → 4 ≤ n → n ≤ 15 → type_of n ≡ Known (DvbReserved n)
-  pub others : (n : ℕ) → 16 ≤ n → type_of n ≡ Nothing
+  pub uri : type_of 0 ≡ Some UriString
+  pub locator : type_of 1 ≡ Some BinaryLocator
+  pub both : type_of 2 ≡ Some Both
+  pub descriptor : type_of 3 ≡ Some Descriptor
+  pub reserved : (n : ℕ) → 4 ≤ n → n ≤ 15 → type_of n ≡ Some (DvbReserved n)
+  pub others : (n : ℕ) → 16 ≤ n → type_of n ≡ None
 
-unnamed : (n : ℕ) → 4 ≤ n → type_of n ≡ pick (leb n 15) (Known (DvbReserved n)) Nothing
+unnamed : (n : ℕ) → 4 ≤ n → type_of n ≡ pick (leb n 15) (Some (DvbReserved n)) None
 unnamed n h = simp (ne_eqb n 0 (λ e. omega arith), ne_eqb n 1 (λ e. omega arith), ne_eqb n 2 (λ e. omega arith), ne_eqb n 3 (λ e. omega arith))
 
 pub type-table : TypeTable
@@ -66,9 +65,9 @@ pub record TypeHas (n : ℕ) (t : LinkType) : Type 0 where
   pub among : Among n (type_numbers t)
   pub due : Due n (with_uri t) (with_locator t)
 
-abbrev Holds : ℕ → NamedType → Type 0
-Holds n (Known t) = TypeHas n t
-Holds n Nothing = 15 < n
+abbrev Holds : ℕ → Option LinkType → Type 0
+Holds n (Some t) = TypeHas n t
+Holds n None = 15 < n
 
 holds : (n : ℕ) → Holds n (type_of n)
 holds zero = record { number = refl; among = (omega arith, omega arith); due = due-table.uri }
@@ -83,14 +82,14 @@ holds (suc (suc (suc (suc k)))) = rw (unnamed n four) (go (leb n 15) refl)
     four : 4 ≤ n
     four = omega arith
 
-    go : (b : Bool) → leb n 15 ≡ b → Holds n (pick b (Known (DvbReserved n)) Nothing)
+    go : (b : Bool) → leb n 15 ≡ b → Holds n (pick b (Some (DvbReserved n)) None)
     go true e = record { number = refl; among = (four, leb-true n 15 e); due = due-table.others n four }
     go false e = leb-false n 15 e
 
-pub type-has : (n : ℕ) (t : LinkType) → type_of n ≡ Known t → TypeHas n t
+pub type-has : (n : ℕ) (t : LinkType) → type_of n ≡ Some t → TypeHas n t
 type-has n t e = rw e at (holds n)
 
-pub type-back : (t : LinkType) → Among (type_number t) (type_numbers t) → type_of (type_number t) ≡ Known t
+pub type-back : (t : LinkType) → Among (type_number t) (type_numbers t) → type_of (type_number t) ≡ Some t
 type-back UriString h = refl
 type-back BinaryLocator h = refl
 type-back Both h = refl
@@ -100,9 +99,9 @@ type-back (DvbReserved n) h = type-table.reserved n h.0 h.1
 -- ---- the classes part the numbers among them
 
 -- the numbers of a number's class, and none where it has no class
-abbrev numbers_of : NamedType → Numbers
-numbers_of (Known t) = type_numbers t
-numbers_of Nothing = from-to 1 0
+abbrev numbers_of : Option LinkType → Numbers
+numbers_of (Some t) = type_numbers t
+numbers_of None = from-to 1 0
 
 abbrev numbers_at : ℕ → Numbers
 numbers_at n = numbers_of (type_of n)
@@ -120,11 +119,11 @@ types-apart n t u h k = sym (type-among n t h) ∙ type-among n u k
 
 pub record Typed (n : ℕ) : Type 0 where
   pub type : LinkType
-  pub known : type_of n ≡ Known type
+  pub known : type_of n ≡ Some type
 
 pub types-cover : (n : ℕ) → n ≤ link_type.widest → Typed n
 types-cover n h = go (type_of n) refl
   where
-    go : (r : NamedType) → type_of n ≡ r → Typed n
-    go (Known t) e = record { type = t; known = e }
-    go Nothing e = let above : 15 < n = rw e at (holds n) in absurd (omega (arith, above))
+    go : (r : Option LinkType) → type_of n ≡ r → Typed n
+    go (Some t) e = record { type = t; known = e }
+    go None e = let above : 15 < n = rw e at (holds n) in absurd (omega (arith, above))

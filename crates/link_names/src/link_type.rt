@@ -14,13 +14,6 @@ pub enum LinkType {
     DvbReserved(u16),
 }
 
-// The type of a number, if the field can hold that number.
-#[derive(Drop)]
-pub enum NamedType {
-    Known(LinkType),
-    Nothing,
-}
-
 const URI_STRING: u16 = 0;
 
 const BINARY_LOCATOR: u16 = 1;
@@ -34,19 +27,19 @@ const FIRST_RESERVED: u16 = 4;
 const LAST: u16 = Field::LINK_TYPE.widest as u16;
 
 impl LinkType {
-    pub fn of_number(number: u16) -> NamedType
+    pub fn of_number(number: u16) -> Option<LinkType>
         ensures { result ≡ type_of number }
     {
         match number {
-            URI_STRING => NamedType::Known(LinkType::UriString),
-            BINARY_LOCATOR => NamedType::Known(LinkType::BinaryLocator),
-            BOTH => NamedType::Known(LinkType::Both),
-            DESCRIPTOR => NamedType::Known(LinkType::Descriptor),
+            URI_STRING => Some(LinkType::UriString),
+            BINARY_LOCATOR => Some(LinkType::BinaryLocator),
+            BOTH => Some(LinkType::Both),
+            DESCRIPTOR => Some(LinkType::Descriptor),
             _ => {
                 if LAST < number {
-                    return NamedType::Nothing;
+                    return None;
                 }
-                NamedType::Known(LinkType::DvbReserved(number))
+                Some(LinkType::DvbReserved(number))
             }
         }
     }

@@ -9,7 +9,6 @@ ghost use Rattle.link.specs.Parts.{uri_span, text_span, descriptor_span};
 
 use length_field::LengthField;
 use link::LinkFields;
-use link::reading::ItemRead;
 use link_walker::BodyPlaces;
 use spans::Span;
 
@@ -25,11 +24,13 @@ fn uri_span(s: &[u8]) -> Span
 {
     let places = link_walker::body_places(s);
     match places {
-        BodyPlaces::At {
-            uri_end,
-            count_at: _,
-            tail: _,
-        } => {
+        Ok(
+            BodyPlaces {
+                uri_end,
+                count_at: _,
+                tail: _,
+            },
+        ) => {
             if uri_end < LinkFields::URI_START {
                 return NOWHERE;
             }
@@ -38,7 +39,7 @@ fn uri_span(s: &[u8]) -> Span
                 length: uri_end - LinkFields::URI_START,
             }
         }
-        BodyPlaces::Refused(_) => NOWHERE,
+        Err(_) => NOWHERE,
     }
 }
 
@@ -47,14 +48,14 @@ fn text_span(s: &[u8], number: usize) -> Span
 {
     let read = link_reader::read_item(s, 0, number);
     match read {
-        ItemRead::Got(item) => {
+        Ok(item) => {
             let text = item.promotional_text;
             Span {
                 start: text.start as usize,
                 length: text.length as usize,
             }
         }
-        ItemRead::Refused(_) => NOWHERE,
+        Err(_) => NOWHERE,
     }
 }
 
@@ -64,18 +65,20 @@ fn descriptor_span(s: &[u8]) -> Span
 {
     let places = link_walker::body_places(s);
     match places {
-        BodyPlaces::At {
-            uri_end: _,
-            count_at: _,
-            tail,
-        } => {
+        Ok(
+            BodyPlaces {
+                uri_end: _,
+                count_at: _,
+                tail,
+            },
+        ) => {
             let start = tail + LengthField::BYTES;
             Span {
                 start,
                 length: s.len() - start,
             }
         }
-        BodyPlaces::Refused(_) => NOWHERE,
+        Err(_) => NOWHERE,
     }
 }
 

@@ -7,7 +7,6 @@ use mathlib.Core.List.{List}
 use lib.ListN.{length, set, replicate}
 use Rattle.field.specs.Fields.{number_items}
 use Rattle.wire.specs.Lists.{Bytes}
-use Rattle.wire.specs.declared.verdict.Verdict.TheVariants.{Fine}
 use Rattle.link.specs.Syntax.{item_head}
 use Rattle.link.specs.Reading.{items_place, item_count, item_end, item_place, items_verdict, body_verdict}
 use Rattle.link.specs.Records.{no_item, filled, item_info, item_infos}
@@ -16,6 +15,7 @@ use Rattle.link.specs.declared.LinkItem.{LinkItem}
 use Rattle.link.proofs.Bounds.{farthest, body-known, rest-known, item-far}
 use Rattle.link.proofs.Filling.{filled_more, place-snoc}
 use Rattle.link.proofs.Turns.{items-turn}
+use Rattle.wire.specs.Verdict.{Fine}
 
 -- i of n items are filled in, the first of which is at q; the next one is at p
 pub record Filled (base : ℕ) (xs : List ℕ) (n q : ℕ) (is : List LinkItem) (p i : ℕ) : Type 0 where

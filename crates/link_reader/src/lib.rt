@@ -3,17 +3,16 @@
 #![tactic(auto)]
 
 ghost use Rattle.std.specs.Prelude.{◌≡◌, ◌+◌, ◌-◌, ◌≤◌, length};
-ghost use Rattle.wire.specs.declared.verdict.Verdict.TheVariants.{Fine};
 ghost use Rattle.link.specs.Syntax.{item_head};
 ghost use Rattle.link.specs.Reading.{count_place, items_place, item_count, body_verdict};
 ghost use Rattle.link.specs.Records.{filled, item_info, item_infos};
 ghost use Rattle.link.specs.Answers.{link_read, item_read, last_place, told, item_from};
+ghost use Rattle.wire.specs.Verdict.{Fine};
 
 use field::Field;
-use link::reading::{FieldsRead, ItemRead, ItemStep, LinkRead};
+use link::reading::ItemStep;
 use link::{LangCode, LinkFields, LinkInfo, LinkItem, Range};
-use link_walker::BodyPlaces;
-use wire::verdict::{Reached, Refusal, Verdict};
+use wire::verdict::Refusal;
 
 // The item at `p`, whose head is there. `base` is the place of the slice in the text that ranges are counted in.
 fn item_at(s: &[u8], base: u16, p: usize) -> LinkItem
@@ -43,71 +42,50 @@ fn items_of(s: &[u8], base: u16, n: usize, items_at: u32) -> [LinkItem; LinkInfo
     let mut p = (items_at as usize) - (base as usize);
     let none = LinkItem::none();
     let mut items = [none; LinkInfo::MOST_ITEMS];
-    let mut i: usize = 0;
-    while i < n {
+    for i in 0..n {
         let item = item_at(s, base, p);
         let text = item.promotional_text;
         items[i] = item;
         p = p + LinkItem::HEAD + (text.length as usize);
-        i += 1;
     }
     items
 }
 
-// The record of a link, all items filled in, or its refusal, beside which none is filled.
-pub fn read_link(s: &[u8], base: u16, reserved: u16) -> LinkRead
+// The record of a link, all items filled in.
+pub fn read_link(s: &[u8], base: u16, reserved: u16) -> Result<LinkInfo, Refusal>
     ensures { result ≡ link_read base reserved s.now }
 {
-    let read = fields_reader::read_fields(s, base, reserved);
-    match read {
-        FieldsRead::Got { fields, items_at } => {
-            let link = LinkInfo {
-                fields,
-                items: items_of(s, base, fields.number_items, items_at),
-            };
-            LinkRead {
-                verdict: Verdict::Fine,
-                link,
-            }
-        }
-        FieldsRead::Refused(r) => LinkRead::refused(r),
-    }
+    let read = fields_reader::read_fields(s, base, reserved)?;
+    Ok(LinkInfo {
+        fields: read.fields,
+        items: items_of(s, base, read.fields.number_items, read.items_at),
+    })
 }
 
 // An item of a body that was checked, by number: 21 (number, count) past the last. The items before it were checked too, so
 // that none of them is refused here.
-fn item_numbered(s: &[u8], base: u16, count_at: usize, number: usize) -> ItemRead
+fn item_numbered(s: &[u8], base: u16, count_at: usize, number: usize) -> Result<LinkItem, Refusal>
     requires { (body_verdict s.now ≡ Fine) × (count_at ≡ count_place s.now) }
     ensures { result ≡ item_read base s.now number }
 {
     let n = Field::NUMBER_ITEMS.low(s[count_at] as u16) as usize;
     if n <= number {
-        return ItemRead::Refused(Refusal {
+        return Err(Refusal {
             number: Refusal::NO_SUCH_NUMBER,
             first: number,
             second: n,
         });
     }
-    let place = item_walker::past_items(s, (count_at + LinkFields::COUNT) as u32, number);
-    match place {
-        Reached::At(p) => ItemRead::Got(item_at(s, base, p)),
-        Reached::Refused(r) => ItemRead::Refused(r),
-    }
+    let p = item_walker::past_items(s, (count_at + LinkFields::COUNT) as u32, number)?;
+    Ok(item_at(s, base, p))
 }
 
 // Item by number: the body's refusals, then 21 (number, count), else the item.
-pub fn read_item(s: &[u8], base: u16, number: usize) -> ItemRead
+pub fn read_item(s: &[u8], base: u16, number: usize) -> Result<LinkItem, Refusal>
     ensures { result ≡ item_read base s.now number }
 {
-    let places = link_walker::body_places(s);
-    match places {
-        BodyPlaces::At {
-            uri_end: _,
-            count_at,
-            tail: _,
-        } => item_numbered(s, base, count_at, number),
-        BodyPlaces::Refused(r) => ItemRead::Refused(r),
-    }
+    let places = link_walker::body_places(s)?;
+    item_numbered(s, base, places.count_at, number)
 }
 
 // What ranges can tell of a slice: all of it, unless it is longer than their 32 bits.
@@ -122,17 +100,14 @@ fn told(s: &[u8]) -> &[u8]
 
 // Item by place, for a walk from one to the next: the item at `at` of a slice, its range counted from the slice's first
 // byte, and the place behind it, or 12 or 13 against the slice's end.
-pub fn item_from(s: &[u8], at: u32) -> ItemStep
+pub fn item_from(s: &[u8], at: u32) -> Result<ItemStep, Refusal>
     ensures { result ≡ item_from s.now at }
 {
     let t = told(s);
     let p = at as usize;
-    let past = item_walker::past_item(t, at);
-    match past {
-        Reached::At(next) => ItemStep::Got {
-            item: item_at(t, 0, p),
-            next: next as u32,
-        },
-        Reached::Refused(r) => ItemStep::Refused(r),
-    }
+    let next = item_walker::past_item(t, at)?;
+    Ok(ItemStep {
+        item: item_at(t, 0, p),
+        next: next as u32,
+    })
 }

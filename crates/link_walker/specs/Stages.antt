@@ -4,8 +4,7 @@ use Rattle.std.specs.Prelude.{ℕ, ◌+◌, ◌/◌, List, ltb, length, drop}
 use Rattle.field.specs.Fields.{low, link_type}
 use Rattle.length_field.specs.Lengths.{last_verdict}
 use Rattle.wire.specs.Refusals.{body_too_short, icon_cut, descriptors_too_long, link_slack}
-use Rattle.wire.specs.Verdict.{refuse, ◌▷◌}
-use Rattle.wire.specs.declared.verdict.Verdict.{Verdict}
+use Rattle.wire.specs.Verdict.{refuse, ◌▷◌, Verdict}
 use Rattle.locator.specs.Reading.{read_locator}
 use Rattle.link.specs.Syntax.{head_length}
 use Rattle.link.specs.Reading.{locator_said, locator_used, uri_verdict, count_verdict, rest_verdict}

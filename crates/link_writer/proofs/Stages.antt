@@ -1,12 +1,12 @@
 -- Stages of the writing, one behind the other: a part with room for it and without, the locator, the items one by one, and
 -- the bytes before the descriptors.
 -- Assumes nothing.
-use Prim.Native.Nat.{ℕ, min, ◌+◌, ◌*◌, ◌%◌, ◌≤◌, ◌<◌}
+use Prim.Native.Nat.{ℕ, ◌+◌, ◌*◌, ◌%◌, ◌≤◌, ◌<◌}
 use mathlib.Core.Path.{◌≡◌, refl, sym, ap, ◌∙◌}
 use mathlib.Core.Bool.{Bool, false}
 use mathlib.Core.List.{List, [], ◌∷◌, ◌++◌, append_assoc, append-nil}
 use native.Mathlib.Omega.{arith}
-use lib.ListN.{length, take, drop, get_or, length-append}
+use lib.ListN.{length, take, drop, get_or, length-append, drop_of_length-le}
 use borrow.Author.Tests.{leb-false}
 use Rattle.wire.specs.Choice.{bit}
 use Rattle.length_field.specs.Lengths.{longest, widest_beside, length_bytes}
@@ -21,7 +21,7 @@ use Rattle.locator.proofs.Written.{written-take}
 use Rattle.link.specs.declared.LinkItem.{LinkItem}
 use Rattle.link.specs.declared.LinkFields.{LinkFields}
 use Rattle.link_draft.specs.Writing.{item_parts, items_parts, tail_parts, put_all}
-use Rattle.link_draft.proofs.Counted.{counted_next, counted_none}
+use Rattle.std.proofs.lemmas.List.{drop_more}
 use Rattle.link_draft.proofs.Parts.{all-length, all_past}
 use Rattle.link_writer.specs.Stages.{Puts}
 
@@ -77,16 +77,16 @@ tail-head d i n flag icon bs f g e =
 
 -- ---- the items
 
--- an item put down, and what is left of the counted ones; and nothing is left
-module _ (t : List ℕ) (xs : List LinkItem) (count i : ℕ) (qs : List (List ℕ)) (b all : List ℕ) (p : ℕ) (inv : put_all b p (items_parts t (drop i (take count xs)) ++ qs) ≡ all) where
-  pub items-on : {ys : List ℕ} {q : ℕ} (d : LinkItem) → i < min count (length xs) → Puts b p (item_parts t (get_or xs i d)) ys q → put_all ys q (items_parts t (drop (i + 1) (take count xs)) ++ qs) ≡ all
+-- an item put down, and what is left of them; and nothing is left
+module _ (t : List ℕ) (xs : List LinkItem) (i : ℕ) (qs : List (List ℕ)) (b all : List ℕ) (p : ℕ) (inv : put_all b p (items_parts t (drop i xs) ++ qs) ≡ all) where
+  pub items-on : {ys : List ℕ} {q : ℕ} (d : LinkItem) → i < length xs → Puts b p (item_parts t (get_or xs i d)) ys q → put_all ys q (items_parts t (drop (i + 1) xs) ++ qs) ≡ all
   unfolding items_parts
   items-on d h f =
       let x = get_or xs i d in
-      let left = drop (i + 1) (take count xs) in
-      let whole : items_parts t (drop i (take count xs)) ≡ item_parts t x ++ items_parts t left = ap (items_parts t) (counted_next xs count i d h) in
+      let left = drop (i + 1) xs in
+      let whole : items_parts t (drop i xs) ≡ item_parts t x ++ items_parts t left = ap (items_parts t) (drop_more xs i d h) in
       f.rest (items_parts t left ++ qs) ∙ ap (put_all b p) (sym (append_assoc (item_parts t x) (items_parts t left) qs) ∙ ap (λ ps. ps ++ qs) (sym whole)) ∙ inv
 
-  pub items-done : min count (length xs) ≤ i → put_all b p qs ≡ all
+  pub items-done : length xs ≤ i → put_all b p qs ≡ all
   unfolding items_parts
-  items-done h = ap (λ ps. put_all b p (ps ++ qs)) (sym (ap (items_parts t) (counted_none xs count i h))) ∙ inv
+  items-done h = ap (λ ps. put_all b p (ps ++ qs)) (sym (ap (items_parts t) (drop_of_length-le xs {i = i} h))) ∙ inv

@@ -10,8 +10,9 @@ ghost use Rattle.link_writer.specs.Stages.{Puts};
 
 use field::Field;
 use length_field::LengthField;
-use link::{LinkFields, LinkInfo, LinkItem, LinkLocator, MediaUri, Range};
+use link::{LinkFields, LinkInfo, LinkItem, Range};
 use link_draft::held;
+use locator::DvbBinaryLocator;
 use spans::Span;
 
 // Writes the body of a record whose ranges are of `text` into `b` from `at` on. It is the syntax's bytes if the record
@@ -23,11 +24,8 @@ pub fn put_link(b: &mut [u8], at: usize, text: &[u8], link: LinkInfo)
     let fields = link.fields;
     let n = held(fields.number_items);
     let mut p = put_front(b, at, text, fields);
-    let mut i: usize = 0;
-    while i < n {
-        let item = items[i];
-        p = put_item(b, p, text, item);
-        i += 1;
+    for item in &items[..n] {
+        p = put_item(b, p, text, *item);
     }
     put_tail(b, p, text, fields);
 }
@@ -46,24 +44,24 @@ fn put_front(b: &mut [u8], at: usize, text: &[u8], fields: LinkFields) -> usize
     put_next(b, count_at, &count)
 }
 
-fn put_uri(b: &mut [u8], at: usize, text: &[u8], uri: MediaUri) -> usize
+fn put_uri(b: &mut [u8], at: usize, text: &[u8], uri: Option<Range>) -> usize
     ensures { Puts b.old at (uri_parts text.now uri) b.new result }
 {
     match uri {
-        MediaUri::Absent => at,
-        MediaUri::Present(range) => {
+        None => at,
+        Some(range) => {
             let head = [length_byte(Field::URI_LENGTH, range)];
             put_headed(b, at, &head, text, range)
         }
     }
 }
 
-fn put_locator(b: &mut [u8], at: usize, locator: LinkLocator) -> usize
+fn put_locator(b: &mut [u8], at: usize, locator: Option<DvbBinaryLocator>) -> usize
     ensures { Puts b.old at (locator_parts locator) b.new result }
 {
     match locator {
-        LinkLocator::Absent => at,
-        LinkLocator::Present(l) => {
+        None => at,
+        Some(l) => {
             let written = locator_writer::locator_bytes(l);
             let bytes = written.bytes;
             let length = written.length;

@@ -1,5 +1,5 @@
 // Input by digits to base 16, with white space anywhere between them.
-use crate::{Program, Taken, messages};
+use crate::{Program, messages};
 use console::digits::digit;
 use std::io;
 use std::io::Read;
@@ -7,15 +7,20 @@ use std::io::Read;
 // The most characters that are read at a time.
 const BLOCK: usize = 4096;
 
-// How far the digits are taken: how many, and how many characters were looked at. The last of these is wrong, or is a digit
-// that there is no room for, or the input is over.
+// What ends the digits: a character that is none, a digit that there is no room for, or the end of the input.
+#[derive(Clone, Copy)]
+enum End {
+    Wrong,
+    More,
+    Over,
+}
+
+// How far the digits are taken: how many, how many characters were looked at, and what ended them, if anything did.
 #[derive(Clone, Copy)]
 struct Digits {
     count: usize,
     characters: usize,
-    is_wrong: bool,
-    is_more: bool,
-    is_over: bool,
+    end: Option<End>,
 }
 
 impl Digits {
@@ -23,28 +28,13 @@ impl Digits {
         Digits {
             count: 0,
             characters: 0,
-            is_wrong: false,
-            is_more: false,
-            is_over: false,
+            end: None,
         }
-    }
-
-    fn is_ended(self) -> bool {
-        if self.is_wrong {
-            return true;
-        }
-        if self.is_more {
-            return true;
-        }
-        self.is_over
     }
 }
 
 fn is_white(c: u8) -> bool {
-    match c {
-        b' ' | b'\t' | b'\r' | b'\n' => true,
-        _ => false,
-    }
+    matches!(c, b' ' | b'\t' | b'\r' | b'\n')
 }
 
 // One digit more: the buffer is zeros, so that of two digits of a byte the second moves the first up.
@@ -55,7 +45,7 @@ fn put_digit(bytes: &mut [u8], mut digits: Digits, value: usize) -> Digits {
         digits.count = std::num::wrapping_add_usize(digits.count, 1);
         return digits;
     }
-    digits.is_more = true;
+    digits.end = Some(End::More);
     digits
 }
 
@@ -65,19 +55,19 @@ fn take_character(bytes: &mut [u8], mut digits: Digits, c: u8) -> Digits {
     if value < 16 {
         return put_digit(bytes, digits, value);
     }
-    digits.is_wrong = !is_white(c);
+    if !is_white(c) {
+        digits.end = Some(End::Wrong);
+    }
     digits
 }
 
 fn take_block(bytes: &mut [u8], before: Digits, block: &[u8]) -> Digits {
     let mut digits = before;
-    let mut i: usize = 0;
-    while i < block.len() {
-        digits = take_character(bytes, digits, block[i]);
-        if digits.is_ended() {
+    for c in block {
+        digits = take_character(bytes, digits, *c);
+        if digits.end.is_some() {
             return digits;
         }
-        i += 1;
     }
     digits
 }
@@ -87,7 +77,7 @@ fn take_some(bytes: &mut [u8], mut digits: Digits, input: &mut impl Read) -> io:
     let mut block = [0u8; BLOCK];
     let n = input.read(&mut block)?;
     if n == 0 {
-        digits.is_over = true;
+        digits.end = Some(End::Over);
         return Ok(digits);
     }
     Ok(take_block(bytes, digits, &block[..n]))
@@ -98,11 +88,20 @@ fn take_digits(bytes: &mut [u8], input: &mut impl Read) -> io::Result<Digits> {
     let mut digits = Digits::none();
     for _ in 0..u64::MAX {
         digits = take_some(bytes, digits, input)?;
-        if digits.is_ended() {
+        if digits.end.is_some() {
             return Ok(digits);
         }
     }
     Ok(digits)
+}
+
+// The bytes of digits that nothing is wrong with, if they are none too few.
+fn bytes_of(program: &Program<impl Print>, digits: usize) -> io::Result<Option<usize>> {
+    if digits % 2 == 1 {
+        messages::tell_odd(program)?;
+        return Ok(None);
+    }
+    Ok(Some(digits / 2))
 }
 
 // The bytes that the digits say, into a buffer of zeros.
@@ -110,19 +109,17 @@ pub(crate) fn take_hex(
     program: &Program<impl Print>,
     input: &mut impl Read,
     bytes: &mut [u8],
-) -> io::Result<Taken> {
+) -> io::Result<Option<usize>> {
     let digits = take_digits(bytes, input)?;
-    if digits.is_wrong {
-        messages::tell_character(program, digits.characters)?;
-        return Ok(Taken::Nothing);
+    match digits.end {
+        Some(End::Wrong) => {
+            messages::tell_character(program, digits.characters)?;
+            Ok(None)
+        }
+        Some(End::More) => {
+            messages::tell_more(program)?;
+            Ok(Some(bytes.len()))
+        }
+        _ => bytes_of(program, digits.count),
     }
-    if digits.is_more {
-        messages::tell_more(program)?;
-        return Ok(Taken::Bytes(bytes.len()));
-    }
-    if digits.count % 2 == 1 {
-        messages::tell_odd(program)?;
-        return Ok(Taken::Nothing);
-    }
-    Ok(Taken::Bytes(digits.count / 2))
 }

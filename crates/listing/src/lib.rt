@@ -27,18 +27,11 @@ pub struct Program<M> {
     pub messages: M,
 }
 
-// What is to be listed: so many bytes, or nothing, where help was asked for or something is wrong with words or input.
-#[derive(Drop)]
-pub enum Taken {
-    Bytes(usize),
-    Nothing,
-}
-
 fn take_bytes(
     program: &Program<impl Print>,
     input: &mut impl Read,
     bytes: &mut [u8],
-) -> io::Result<Taken> {
+) -> io::Result<Option<usize>> {
     let count = read_full(input, bytes)?;
     let mut behind = [0u8; 1];
     if count == bytes.len() {
@@ -46,7 +39,7 @@ fn take_bytes(
             messages::tell_more(program)?;
         }
     }
-    Ok(Taken::Bytes(count))
+    Ok(Some(count))
 }
 
 // Reads what is to be listed into a buffer of zeros. Where help was asked for it is printed instead.
@@ -56,13 +49,13 @@ pub fn take(
     options: Options,
     input: &mut impl Read,
     bytes: &mut [u8],
-) -> io::Result<Taken> {
+) -> io::Result<Option<usize>> {
     if options.is_help {
         messages::put_help(rt, program)?;
-        return Ok(Taken::Nothing);
+        return Ok(None);
     }
     if !options.is_known {
-        return Ok(Taken::Nothing);
+        return Ok(None);
     }
     if options.is_hex {
         return hex::take_hex(program, input, bytes);

@@ -2,7 +2,8 @@
 use crate::{Program, messages};
 use std::io;
 
-// What was asked for, and whether each word was known.
+// What was asked for, and whether each word was known. Flags are right here: each option is a word of the command line by
+// itself, and any of them can be given with any other.
 #[derive(Clone, Copy)]
 pub struct Options {
     pub is_checked: bool,
@@ -10,21 +11,6 @@ pub struct Options {
     pub is_hex: bool,
     pub is_help: bool,
     pub is_known: bool,
-}
-
-// Whether a word is this one.
-fn is_word(word: &[u8], other: &[u8]) -> bool {
-    if word.len() != other.len() {
-        return false;
-    }
-    let mut i: usize = 0;
-    while i < word.len() {
-        if word[i] != other[i] {
-            return false;
-        }
-        i += 1;
-    }
-    true
 }
 
 impl Options {
@@ -40,29 +26,19 @@ impl Options {
 
     // With one word more. Their order means nothing, nor that one comes again.
     pub fn with_word(mut self, word: &[u8]) -> Options {
-        if is_word(word, b"--check") {
-            self.is_checked = true;
-            return self;
+        match word {
+            b"--check" => self.is_checked = true,
+            b"--all" => self.is_all = true,
+            b"--hex" => self.is_hex = true,
+            b"--help" => self.is_help = true,
+            _ => self.is_known = false,
         }
-        if is_word(word, b"--all") {
-            self.is_all = true;
-            return self;
-        }
-        if is_word(word, b"--hex") {
-            self.is_hex = true;
-            return self;
-        }
-        if is_word(word, b"--help") {
-            self.is_help = true;
-            return self;
-        }
-        self.is_known = false;
         self
     }
 
     // Whether a message is due: a word is not known, and help, which tells them all, was not asked for.
     pub fn are_wrong(self) -> bool {
-        if self.is_help { false } else { !self.is_known }
+        !self.is_help && !self.is_known
     }
 }
 

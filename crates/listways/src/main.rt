@@ -149,10 +149,9 @@ fn run(
 ) -> io::Result<()> {
     let mut unread = Unread::nothing();
     for _ in 0..u64::MAX {
-        let read = read_line(input, block, line, unread)?;
-        if read.is_over {
+        let Some(read) = read_line(input, block, line, unread)? else {
             return Ok(());
-        }
+        };
         let kept = Span {
             start: 0,
             length: read.kept,

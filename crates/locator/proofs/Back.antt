@@ -12,18 +12,17 @@ use Rattle.field.specs.Fields.{start_date, locator_reserved, triplet_id, inline_
 use Rattle.wire.specs.Numbers.{word16, be16}
 use Rattle.wire.proofs.Words.{word16-back}
 use Rattle.locator.specs.Syntax.{head_length, triplet_length, inline_length, type_of, is_inline, last_bits, head_of, identifier_bytes, windows_bytes, locator_bytes, service_length, identifier_length, windows_length, locator_length, WindowsFit, Narrow, are_here, are_due, Ruled, Fits, locator_of}
-use Rattle.locator.specs.Reading.{type_in, reliable, inline, service_end, tail_length, identifier_at, windows_at, headed_at, locator_at, size_at, read_locator}
+use Rattle.locator.specs.Reading.{type_in, reliable, inline, service_end, tail_length, identifier_at, windows_at, headed_at, locator_at, size_at, read_locator, got_locator}
 use Rattle.locator.specs.declared.DvbBinaryLocator.{DvbBinaryLocator}
 use Rattle.locator.specs.declared.DvbLocatorService.{DvbLocatorService}
 use Rattle.locator.specs.declared.DvbLocatorService.TheVariants.{Triplet, Full}
 use Rattle.locator.specs.declared.DvbLocatorIdentifier.{DvbLocatorIdentifier}
-use Rattle.locator.specs.declared.DvbLocatorIdentifier.TheVariants.{None, EventId, TvaIdEit, TvaIdPes}
-use Rattle.locator.specs.declared.DvbLocatorWindows.{DvbLocatorWindows}
-use Rattle.locator.specs.declared.DvbLocatorWindows.TheVariants.{Absent, Present}
-use Rattle.locator.specs.declared.reading.LocatorRead.TheVariants.{Got}
+use Rattle.locator.specs.declared.DvbLocatorIdentifier.TheVariants.{None as NoIdentifier, EventId, TvaIdEit, TvaIdPes}
 use Rattle.locator.proofs.Answers.{enough-fine, read-fine}
 use Rattle.locator.proofs.Sizes.{bytes-length}
 use Rattle.locator.proofs.Spelling.{bit_le, last-le}
+use Rattle.locator.specs.Windows.{Windows}
+use Rattle.std.specs.Prelude.{None, Some}
 
 -- ---- the head
 
@@ -62,23 +61,23 @@ triplet-back h t f e = omega arith
 
 -- ---- what follows the times
 
-record TailRead (h : ℕ) (ys : List ℕ) (i : DvbLocatorIdentifier) (w : DvbLocatorWindows) : Type 0 where
+record TailRead (h : ℕ) (ys : List ℕ) (i : DvbLocatorIdentifier) (w : Windows) : Type 0 where
   identifier : identifier_at (identifier_bytes i ++ (windows_bytes w ++ ys)) h 0 ≡ i
   windows : windows_at (identifier_bytes i ++ (windows_bytes w ++ ys)) h 0 ≡ w
   size : tail_length h ≡ identifier_length i + windows_length w
 
-tail-back : (h : ℕ) (ys : List ℕ) (r : Bool) (i : DvbLocatorIdentifier) (w : DvbLocatorWindows) → WindowsFit w → are_here w ≡ are_due i r → type_in h ≡ type_of i → reliable h ≡ r → TailRead h ys i w
-tail-back h ys r None Absent f d e q = record { identifier = simp e; windows = simp (e, q, ← d); size = simp (e, q, ← d) }
-tail-back h ys r None (Present x a) f d e q =
-    let early : (x * 32 + a) / 32 % 8 ≡ x = omega arith in
-    let late : (x * 32 + a) % 32 ≡ a = omega arith in
+tail-back : (h : ℕ) (ys : List ℕ) (r : Bool) (i : DvbLocatorIdentifier) (w : Windows) → WindowsFit w → are_here w ≡ are_due i r → type_in h ≡ type_of i → reliable h ≡ r → TailRead h ys i w
+tail-back h ys r NoIdentifier None f d e q = record { identifier = simp e; windows = simp (e, q, ← d); size = simp (e, q, ← d) }
+tail-back h ys r NoIdentifier (Some w) f d e q =
+    let early : (w.early_start_window * 32 + w.late_end_window) / 32 % 8 ≡ w.early_start_window = omega arith in
+    let late : (w.early_start_window * 32 + w.late_end_window) % 32 ≡ w.late_end_window = omega arith in
     record { identifier = simp e; windows = simp (e, q, ← d, early, late); size = simp (e, q, ← d) }
-tail-back h ys r (EventId x) Absent f d e q = record { identifier = simp (e, word16-back); windows = simp e; size = simp e }
-tail-back h ys r (TvaIdEit x) Absent f d e q = record { identifier = simp (e, word16-back); windows = simp e; size = simp e }
-tail-back h ys r (TvaIdPes x c) Absent f d e q = record { identifier = simp (e, word16-back); windows = simp e; size = simp e }
-tail-back h ys r (EventId x) (Present y a) f d e q = absurd (true≢false d)
-tail-back h ys r (TvaIdEit x) (Present y a) f d e q = absurd (true≢false d)
-tail-back h ys r (TvaIdPes x c) (Present y a) f d e q = absurd (true≢false d)
+tail-back h ys r (EventId x) None f d e q = record { identifier = simp (e, word16-back); windows = simp e; size = simp e }
+tail-back h ys r (TvaIdEit x) None f d e q = record { identifier = simp (e, word16-back); windows = simp e; size = simp e }
+tail-back h ys r (TvaIdPes x c) None f d e q = record { identifier = simp (e, word16-back); windows = simp e; size = simp e }
+tail-back h ys r (EventId x) (Some w) f d e q = absurd (true≢false d)
+tail-back h ys r (TvaIdEit x) (Some w) f d e q = absurd (true≢false d)
+tail-back h ys r (TvaIdPes x c) (Some w) f d e q = absurd (true≢false d)
 
 -- ---- the whole
 
@@ -100,7 +99,7 @@ module _ (l : DvbBinaryLocator) (f : Narrow l) (d : Ruled l) (rest : List ℕ) w
       go (Triplet t) = refl
       go (Full r ts on sv) = refl
 
-module _ (r : Bool) (s d t u : ℕ) (i : DvbLocatorIdentifier) (w : DvbLocatorWindows) (rest : List ℕ) where
+module _ (r : Bool) (s d t u : ℕ) (i : DvbLocatorIdentifier) (w : Windows) (rest : List ℕ) where
   fields_back : (v : DvbLocatorService) → Narrow (locator_of r s d v t u i w) → Ruled (locator_of r s d v t u i w) → let l = locator_of r s d v t u i w in headed_at (locator_bytes l ++ rest) (head_of l) (service_end (head_of l)) ≡ l
   unfolding locator_bytes
   fields_back (Triplet k) f e =
@@ -112,8 +111,8 @@ module _ (r : Bool) (s d t u : ℕ) (i : DvbLocatorIdentifier) (w : DvbLocatorWi
       let g = tail l f e rest in
       simp (append_assoc, inline-back l f, reserved-back l f, date-back l f, last-back l f, word16-back, g.identifier, rw (reliable-back l f) at g.windows, reliable-back l f)
 
-pub read_back : (l : DvbBinaryLocator) (rest : List ℕ) → Fits l → read_locator (locator_bytes l ++ rest) ≡ Got l (length (locator_bytes l))
+pub read_back : (l : DvbBinaryLocator) (rest : List ℕ) → Fits l → read_locator (locator_bytes l ++ rest) ≡ got_locator l (length (locator_bytes l))
 unfolding locator_at
 read_back l rest f =
     read-fine (locator_bytes l ++ rest) (enough-fine (locator_bytes l ++ rest) (omega (arith, size_back l f.narrow f.rule rest, length-append (locator_bytes l) rest)))
-    ∙ ap₂ Got (rw (head-back l rest) (fields_back l.scheduled_time_reliability l.reserved l.start_date l.start_time l.duration l.identifier l.windows rest l.service f.narrow f.rule)) (size_back l f.narrow f.rule rest)
+    ∙ ap₂ got_locator (rw (head-back l rest) (fields_back l.scheduled_time_reliability l.reserved l.start_date l.start_time l.duration l.identifier l.windows rest l.service f.narrow f.rule)) (size_back l f.narrow f.rule rest)

@@ -3,7 +3,6 @@
 use mathlib.Core.Path.{◌≡◌, refl}
 use Rattle.field.specs.Fields.{start_date, locator_reserved, triplet_id, inline_reserved, early_start, late_end, check_field}
 use Rattle.wire.specs.Refusals.{against_rule}
-use Rattle.wire.specs.declared.verdict.Verdict.TheVariants.{Fine}
 use Rattle.wire.proofs.Verdicts.{then-fine, fine-then, agree-passed, agree-pass}
 use Rattle.field.proofs.Checks.{field-passed, field-pass}
 use Rattle.locator.specs.Syntax.{ServiceFits, WindowsFit, Narrow, are_here, are_due, Ruled, Carried, Fits}
@@ -11,8 +10,9 @@ use Rattle.locator.specs.Checks.{check_service, check_widths, check_fields, chec
 use Rattle.locator.specs.declared.DvbBinaryLocator.{DvbBinaryLocator}
 use Rattle.locator.specs.declared.DvbLocatorService.{DvbLocatorService}
 use Rattle.locator.specs.declared.DvbLocatorService.TheVariants.{Triplet, Full}
-use Rattle.locator.specs.declared.DvbLocatorWindows.{DvbLocatorWindows}
-use Rattle.locator.specs.declared.DvbLocatorWindows.TheVariants.{Absent, Present}
+use Rattle.locator.specs.Windows.{Windows}
+use Rattle.std.specs.Prelude.{None, Some}
+use Rattle.wire.specs.Verdict.{Fine}
 
 -- ---- 22
 
@@ -24,13 +24,13 @@ service-passes : (v : DvbLocatorService) → ServiceFits v → check_service v �
 service-passes (Triplet t) f = field-pass triplet_id t f
 service-passes (Full r ts on sv) f = field-pass inline_reserved r f
 
-windows-within : (w : DvbLocatorWindows) → check_widths w ≡ Fine → WindowsFit w
-windows-within Absent e = tt
-windows-within (Present x a) e = let p = then-fine _ _ e in (field-passed early_start x p.0, field-passed late_end a p.1)
+windows-within : (w : Windows) → check_widths w ≡ Fine → WindowsFit w
+windows-within None e = tt
+windows-within (Some w) e = let p = then-fine _ _ e in (field-passed early_start w.early_start_window p.0, field-passed late_end w.late_end_window p.1)
 
-windows-pass : (w : DvbLocatorWindows) → WindowsFit w → check_widths w ≡ Fine
-windows-pass Absent f = refl
-windows-pass (Present x a) f = fine-then _ _ (field-pass early_start x f.0) (field-pass late_end a f.1)
+windows-pass : (w : Windows) → WindowsFit w → check_widths w ≡ Fine
+windows-pass None f = refl
+windows-pass (Some w) f = fine-then _ _ (field-pass early_start w.early_start_window f.0) (field-pass late_end w.late_end_window f.1)
 
 pub fields-narrow : (l : DvbBinaryLocator) → check_fields l ≡ Fine → Narrow l
 unfolding check_fields

@@ -7,14 +7,13 @@ use mathlib.Core.List.{List, ◌++◌}
 use lib.ListN.{length, drop, take-append-drop}
 use lib.Seq.{drop-append_seam}
 use Rattle.wire.specs.Lists.{Bytes}
-use Rattle.wire.specs.declared.verdict.Verdict.TheVariants.{Fine}
 use Rattle.locator.specs.Syntax.{locator_bytes, Fits}
-use Rattle.locator.specs.Reading.{locator_at, size_at, locator_verdict, read_locator}
+use Rattle.locator.specs.Reading.{locator_at, size_at, locator_verdict, read_locator, got_locator}
 use Rattle.locator.specs.declared.DvbBinaryLocator.{DvbBinaryLocator}
-use Rattle.locator.specs.declared.reading.LocatorRead.TheVariants.{Got}
-use Rattle.locator.proofs.Answers.{got-had}
+use Rattle.locator.proofs.Answers.{got-had, got-same}
 use Rattle.locator.proofs.Back.{read_back}
 use Rattle.locator.proofs.Rebuild.{fine-rebuilt}
+use Rattle.wire.specs.Verdict.{Fine}
 
 -- xs begins with the bytes of a fitting locator
 pub record Spelt (xs : List ℕ) : Type 0 where
@@ -34,7 +33,7 @@ accepts xs s = rw s.bytes (got-had (locator_bytes s.locator ++ s.rest) s.locator
 -- equal bytes, whatever follows: one locator, and the same follows
 pub one-locator : (l m : DvbBinaryLocator) (r s : List ℕ) → Fits l → Fits m → locator_bytes l ++ r ≡ locator_bytes m ++ s → (l ≡ m) × (r ≡ s)
 one-locator l m r s f g e =
-    let p : read_locator (locator_bytes l ++ r) ≡ Got l (length (locator_bytes l)) = read_back l r f in
-    let q : read_locator (locator_bytes m ++ s) ≡ Got m (length (locator_bytes m)) = read_back m s g in
-    let same : l ≡ m = cc in
+    let p : read_locator (locator_bytes l ++ r) ≡ got_locator l (length (locator_bytes l)) = read_back l r f in
+    let q : read_locator (locator_bytes m ++ s) ≡ got_locator m (length (locator_bytes m)) = read_back m s g in
+    let same : l ≡ m = (got-same l m _ _ (sym p ∙ ap read_locator e ∙ q)).0 in
     (same, sym (drop-append_seam (locator_bytes l) r) ∙ ap (λ xs. drop (length (locator_bytes l)) xs) e ∙ rw same (drop-append_seam (locator_bytes m) s))

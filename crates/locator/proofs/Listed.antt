@@ -7,8 +7,6 @@ use mathlib.Core.List.{List, [], ◌∷◌}
 use native.Mathlib.Omega.{arith}
 use Rattle.wire.specs.Refusals.{locator_cut, too_wide, against_rule}
 use Rattle.wire.specs.declared.verdict.Refusal.{Refusal}
-use Rattle.wire.specs.declared.verdict.Verdict.{Verdict}
-use Rattle.wire.specs.declared.verdict.Verdict.TheVariants.{Fine, Refused}
 use Rattle.wire.proofs.Among.{listed, Among, among-fine, among-row, among_then}
 use Rattle.field.proofs.Checks.{field-listed}
 use Rattle.locator.specs.Reading.{locator_at, size_at, needs, locator_verdict, sized, locator_size, answer, read_locator}
@@ -16,10 +14,9 @@ use Rattle.locator.specs.Checks.{check_service, check_widths, check_fields, chec
 use Rattle.locator.specs.declared.DvbBinaryLocator.{DvbBinaryLocator}
 use Rattle.locator.specs.declared.DvbLocatorService.{DvbLocatorService}
 use Rattle.locator.specs.declared.DvbLocatorService.TheVariants.{Triplet, Full}
-use Rattle.locator.specs.declared.DvbLocatorWindows.{DvbLocatorWindows}
-use Rattle.locator.specs.declared.DvbLocatorWindows.TheVariants.{Absent, Present}
-use Rattle.locator.specs.declared.reading.LocatorSize.TheVariants.{Refused as NotSized}
-use Rattle.locator.specs.declared.reading.LocatorRead.TheVariants.{Refused as NotRead}
+use Rattle.locator.specs.Windows.{Windows}
+use Rattle.std.specs.Prelude.{Err, None, Ok, Some}
+use Rattle.wire.specs.Verdict.{Verdict}
 
 -- ---- reading
 
@@ -35,21 +32,21 @@ verdict-listed xs =
     row n = among-row locator_reading _ locator_cut n _ refl
 
 -- the answer, and that to the size alone
-pub read-listed : (xs : List ℕ) (r : Refusal) → read_locator xs ≡ NotRead r → listed r.number locator_reading ≡ true
+pub read-listed : (xs : List ℕ) (r : Refusal) → read_locator xs ≡ Err r → listed r.number locator_reading ≡ true
 unfolding read_locator
 read-listed xs r e = by (locator_verdict xs) (verdict-listed xs) e
   where
-    by : (v : Verdict) → Among locator_reading v → answer v (locator_at xs) (size_at xs) ≡ NotRead r → listed r.number locator_reading ≡ true
-    by Fine p q = let z : ◌≡◌ {A = ℕ} 0 1 = cc in absurd (omega arith)
-    by (Refused s) p q = p r (cc)
+    by : (v : Verdict) → Among locator_reading v → answer v (locator_at xs) (size_at xs) ≡ Err r → listed r.number locator_reading ≡ true
+    by (Ok _) p q = let z : ◌≡◌ {A = ℕ} 0 1 = cc in absurd (omega arith)
+    by (Err s) p q = p r (cc)
 
-pub size-listed : (xs : List ℕ) (r : Refusal) → locator_size xs ≡ NotSized r → listed r.number locator_reading ≡ true
+pub size-listed : (xs : List ℕ) (r : Refusal) → locator_size xs ≡ Err r → listed r.number locator_reading ≡ true
 unfolding locator_size
 size-listed xs r e = by (locator_verdict xs) (verdict-listed xs) e
   where
-    by : (v : Verdict) → Among locator_reading v → sized v (size_at xs) ≡ NotSized r → listed r.number locator_reading ≡ true
-    by Fine p q = let z : ◌≡◌ {A = ℕ} 0 1 = cc in absurd (omega arith)
-    by (Refused s) p q = p r (cc)
+    by : (v : Verdict) → Among locator_reading v → sized v (size_at xs) ≡ Err r → listed r.number locator_reading ≡ true
+    by (Ok _) p q = let z : ◌≡◌ {A = ℕ} 0 1 = cc in absurd (omega arith)
+    by (Err s) p q = p r (cc)
 
 -- ---- the checks before it is written
 
@@ -63,9 +60,9 @@ fields-listed l =
     service (Triplet t) = field-listed _ t
     service (Full r ts on sv) = field-listed _ r
 
-    widths : (w : DvbLocatorWindows) → Among (too_wide ∷ []) (check_widths w)
-    widths Absent = among-fine (too_wide ∷ [])
-    widths (Present e a) = among_then (too_wide ∷ []) _ _ (field-listed _ e) (field-listed _ a)
+    widths : (w : Windows) → Among (too_wide ∷ []) (check_widths w)
+    widths None = among-fine (too_wide ∷ [])
+    widths (Some w) = among_then (too_wide ∷ []) _ _ (field-listed _ w.early_start_window) (field-listed _ w.late_end_window)
 
 pub windows-listed : (l : DvbBinaryLocator) → Among (against_rule ∷ []) (check_windows l)
 unfolding check_windows

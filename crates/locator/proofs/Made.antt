@@ -16,12 +16,12 @@ use Rattle.locator.specs.declared.DvbBinaryLocator.{DvbBinaryLocator}
 use Rattle.locator.specs.declared.DvbLocatorService.{DvbLocatorService}
 use Rattle.locator.specs.declared.DvbLocatorService.TheVariants.{Triplet}
 use Rattle.locator.specs.declared.DvbLocatorIdentifier.{DvbLocatorIdentifier}
-use Rattle.locator.specs.declared.DvbLocatorWindows.{DvbLocatorWindows}
 use Rattle.locator.proofs.Back.{type-back, reliable-bit, inline-bit, reserved-back, date-back, last-back}
+use Rattle.locator.specs.Windows.{Windows}
 
 -- ---- the fields of the first 16 bits, and what stands behind them
 
-pub record Stands (l : DvbBinaryLocator) (r : Bool) (s d : ℕ) (v : DvbLocatorService) (t u : ℕ) (i : DvbLocatorIdentifier) (w : DvbLocatorWindows) : Type 0 where
+pub record Stands (l : DvbBinaryLocator) (r : Bool) (s d : ℕ) (v : DvbLocatorService) (t u : ℕ) (i : DvbLocatorIdentifier) (w : Windows) : Type 0 where
   pub type : be16 (locator_bytes l) 0 / 0x4000 ≡ type_of i
   pub reliability : be16 (locator_bytes l) 0 / 0x2000 % 2 ≡ bit r
   pub inline : be16 (locator_bytes l) 0 / 0x1000 % 2 ≡ bit (is_inline v)
@@ -34,7 +34,7 @@ head_at_lem : (l : DvbBinaryLocator) → be16 (locator_bytes l) 0 ≡ head_of l
 unfolding locator_bytes
 head_at_lem l = word16-back (head_of l)
 
-module _ (r : Bool) (s d : ℕ) (v : DvbLocatorService) (t u : ℕ) (i : DvbLocatorIdentifier) (w : DvbLocatorWindows) where
+module _ (r : Bool) (s d : ℕ) (v : DvbLocatorService) (t u : ℕ) (i : DvbLocatorIdentifier) (w : Windows) where
   pub made-stands : Narrow (locator_of r s d v t u i w) → Stands (locator_of r s d v t u i w) r s d v t u i w
   unfolding locator_bytes
   made-stands f =
@@ -51,7 +51,7 @@ module _ (r : Bool) (s d : ℕ) (v : DvbLocatorService) (t u : ℕ) (i : DvbLoca
 
 -- ---- `new`: narrow and fitting if the same is with any reserved bit
 
-module _ (r : Bool) (s d : ℕ) (v : DvbLocatorService) (t u : ℕ) (i : DvbLocatorIdentifier) (w : DvbLocatorWindows) where
+module _ (r : Bool) (s d : ℕ) (v : DvbLocatorService) (t u : ℕ) (i : DvbLocatorIdentifier) (w : Windows) where
   new-narrow : Narrow (locator_of r s d v t u i w) → Narrow (new_locator r d v t u i w)
   new-narrow f = record { date = f.date; reserved = omega arith; service = f.service; windows = f.windows }
 
@@ -82,7 +82,7 @@ pub record Ids (l : DvbBinaryLocator) (ts on sv : ℕ) : Type 0 where
   pub network : be16 (locator_bytes l) 4 ≡ on
   pub service : be16 (locator_bytes l) 6 ≡ sv
 
-module _ (r : Bool) (d t u : ℕ) (i : DvbLocatorIdentifier) (w : DvbLocatorWindows) where
+module _ (r : Bool) (d t u : ℕ) (i : DvbLocatorIdentifier) (w : Windows) where
   -- a triplet id ends at 3, an inline service at 8
   pub triplet-times : (k : ℕ) → TimesAt (new_locator r d (Triplet k) t u i w) 3 t u
   unfolding locator_bytes

@@ -18,14 +18,13 @@ use Rattle.wire.specs.Numbers.{bytes16, be16}
 use Rattle.wire.proofs.Lists.{bytes-at, firsts-part}
 use Rattle.wire.proofs.Words.{word16-high, word16-low}
 use Rattle.locator.specs.Syntax.{times_length, type_of, is_inline, last_bits, head_of, service_bytes, identifier_bytes, windows_bytes, locator_bytes, ServiceFits, WindowsFit, are_here, are_due, ServiceCarried, IdentifierCarried, Fits}
-use Rattle.locator.specs.Reading.{type_in, reliable, inline, service_end, tail_length, service_at, identifier_at, windows_at, locator_at, size_at, locator_verdict, read_locator}
-use Rattle.wire.specs.declared.verdict.Verdict.TheVariants.{Fine}
+use Rattle.locator.specs.Reading.{type_in, reliable, inline, service_end, tail_length, service_at, identifier_at, windows_at, locator_at, size_at, locator_verdict, read_locator, got_locator}
 use Rattle.locator.specs.declared.DvbBinaryLocator.{DvbBinaryLocator}
 use Rattle.locator.specs.declared.DvbLocatorService.{DvbLocatorService}
 use Rattle.locator.specs.declared.DvbLocatorIdentifier.{DvbLocatorIdentifier}
-use Rattle.locator.specs.declared.DvbLocatorWindows.{DvbLocatorWindows}
-use Rattle.locator.specs.declared.reading.LocatorRead.TheVariants.{Got}
 use Rattle.locator.proofs.Answers.{fine-enough, got-had}
+use Rattle.locator.specs.Windows.{Windows}
+use Rattle.wire.specs.Verdict.{Fine}
 
 -- ---- the head is made of its fields
 
@@ -50,7 +49,7 @@ record ServiceIs (v : DvbLocatorService) (inl : Bool) (last : ℕ) : Type 0 wher
   fits : ServiceFits v
   carried : ServiceCarried v
 
-record TailIs (i : DvbLocatorIdentifier) (w : DvbLocatorWindows) (bytes : List ℕ) (type : ℕ) (r : Bool) : Type 0 where
+record TailIs (i : DvbLocatorIdentifier) (w : Windows) (bytes : List ℕ) (type : ℕ) (r : Bool) : Type 0 where
   type-is : type_of i ≡ type
   same : identifier_bytes i ++ windows_bytes w ≡ bytes
   fits : WindowsFit w
@@ -146,5 +145,5 @@ fine-rebuilt xs ok e =
     let n = fine-enough xs e in
     record { there = n; same = bytes-are xs ok n; fits = fits-are xs ok }
 
-pub rebuild : (xs : List ℕ) (l : DvbBinaryLocator) (n : ℕ) → Bytes xs → read_locator xs ≡ Got l n → Rebuilt xs l n
+pub rebuild : (xs : List ℕ) (l : DvbBinaryLocator) (n : ℕ) → Bytes xs → read_locator xs ≡ got_locator l n → Rebuilt xs l n
 rebuild xs l n ok e = let g = got-had xs l n e in rw (g.locator, g.used) (fine-rebuilt xs ok g.fine)

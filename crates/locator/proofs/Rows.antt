@@ -7,14 +7,13 @@ use mathlib.Core.Bool.{true, false}
 use mathlib.Core.List.{List, [], ◌∷◌}
 use lib.ListN.{take}
 use Rattle.locator.specs.Syntax.{locator_bytes}
-use Rattle.locator.specs.Reading.{locator_at, size_at, locator_verdict, cut, read_locator}
+use Rattle.locator.specs.Reading.{locator_at, size_at, locator_verdict, cut, read_locator, got_locator}
 use Rattle.locator.specs.Writing.{written_locator}
 use Rattle.wire.specs.Verdict.{refuse, ◌▷◌}
 use Rattle.locator.specs.declared.DvbBinaryLocator.{DvbBinaryLocator}
 use Rattle.locator.specs.declared.DvbLocatorService.TheVariants.{Triplet, Full}
-use Rattle.locator.specs.declared.DvbLocatorIdentifier.TheVariants.{None, TvaIdPes}
-use Rattle.locator.specs.declared.DvbLocatorWindows.TheVariants.{Present}
-use Rattle.locator.specs.declared.reading.LocatorRead.TheVariants.{Got}
+use Rattle.locator.specs.declared.DvbLocatorIdentifier.TheVariants.{None as NoIdentifier, TvaIdPes}
+use Rattle.locator.specs.Windows.{some_windows}
 
 abbrev pub bytes_l : List ℕ
 bytes_l = 0x2C ∷ 0x07 ∷ 0xFF ∷ 0x00 ∷ 0x10 ∷ 0x00 ∷ 0x20 ∷ 0xA3 ∷ []
@@ -28,11 +27,11 @@ record_l = record {
   service = Triplet 1023;
   start_time = 16;
   duration = 32;
-  identifier = None;
-  windows = Present 5 3;
+  identifier = NoIdentifier;
+  windows = some_windows 5 3;
 }
 
-pub row-L : read_locator bytes_l ≡ Got record_l 8
+pub row-L : read_locator bytes_l ≡ got_locator record_l 8
 unfolding read_locator locator_verdict locator_at size_at refuse ◌▷◌
 row-L = refl
 
@@ -55,8 +54,8 @@ wide_l = record {
   service = Triplet 2047;
   start_time = 16;
   duration = 32;
-  identifier = None;
-  windows = Present 13 35;
+  identifier = NoIdentifier;
+  windows = some_windows 13 35;
 }
 
 pub row-L-wide : written_locator wide_l ≡ written_locator record_l
@@ -73,7 +72,7 @@ wide_record = record {
   start_time = 16;
   duration = 32;
   identifier = TvaIdPes 0x0708 9;
-  windows = Present 13 35;
+  windows = some_windows 13 35;
 }
 
 pub row-wide-written : written_locator wide_record ≡ record { bytes = 0xDC ∷ 0x07 ∷ 0x01 ∷ 0x02 ∷ 0x03 ∷ 0x04 ∷ 0x05 ∷ 0x06 ∷ 0x00 ∷ 0x10 ∷ 0x00 ∷ 0x20 ∷ 0x07 ∷ 0x08 ∷ 0x09 ∷ 0xA3 ∷ []; length = 16 }

@@ -11,16 +11,15 @@ use lib.Dec.{eqb}
 use lib.ListN.{length, length-append}
 use Rattle.wire.specs.Numbers.{be16}
 use Rattle.locator.specs.Syntax.{service_bytes, identifier_bytes, windows_bytes, locator_bytes, head_length, times_length, service_length, identifier_length, windows_length, locator_length, shortest_locator, longest_locator, are_here, are_due, Ruled}
-use Rattle.locator.specs.Reading.{type_in, reliable, inline, size_at, read_locator}
+use Rattle.locator.specs.Reading.{type_in, reliable, inline, size_at, read_locator, got_locator}
 use Rattle.locator.specs.declared.DvbBinaryLocator.{DvbBinaryLocator}
 use Rattle.locator.specs.declared.DvbLocatorService.{DvbLocatorService}
 use Rattle.locator.specs.declared.DvbLocatorService.TheVariants.{Triplet, Full}
 use Rattle.locator.specs.declared.DvbLocatorIdentifier.{DvbLocatorIdentifier}
-use Rattle.locator.specs.declared.DvbLocatorIdentifier.TheVariants.{None, EventId, TvaIdEit, TvaIdPes}
-use Rattle.locator.specs.declared.DvbLocatorWindows.{DvbLocatorWindows}
-use Rattle.locator.specs.declared.DvbLocatorWindows.TheVariants.{Absent, Present}
-use Rattle.locator.specs.declared.reading.LocatorRead.TheVariants.{Got}
+use Rattle.locator.specs.declared.DvbLocatorIdentifier.TheVariants.{None as NoIdentifier, EventId, TvaIdEit, TvaIdPes}
 use Rattle.locator.proofs.Answers.{got-had}
+use Rattle.locator.specs.Windows.{Windows}
+use Rattle.std.specs.Prelude.{None, Some}
 
 -- ---- as many as its length says
 
@@ -29,14 +28,14 @@ service-length (Triplet t) = refl
 service-length (Full r ts on sv) = refl
 
 pub identifier-length : (i : DvbLocatorIdentifier) → length (identifier_bytes i) ≡ identifier_length i
-identifier-length None = refl
+identifier-length NoIdentifier = refl
 identifier-length (EventId e) = refl
 identifier-length (TvaIdEit t) = refl
 identifier-length (TvaIdPes t c) = refl
 
-pub windows-length : (w : DvbLocatorWindows) → length (windows_bytes w) ≡ windows_length w
-windows-length Absent = refl
-windows-length (Present e a) = refl
+pub windows-length : (w : Windows) → length (windows_bytes w) ≡ windows_length w
+windows-length None = refl
+windows-length (Some w) = refl
 
 pub bytes-length : (l : DvbBinaryLocator) → length (locator_bytes l) ≡ locator_length l
 unfolding locator_bytes locator_length
@@ -67,20 +66,20 @@ pub length-eight : (l : DvbBinaryLocator) → Ruled l → OneOf lengths (locator
 unfolding locator_length
 length-eight l d = go l.service l.identifier l.windows l.scheduled_time_reliability d
   where
-    go : (v : DvbLocatorService) (i : DvbLocatorIdentifier) (w : DvbLocatorWindows) (r : Bool) → are_here w ≡ are_due i r → OneOf lengths (head_length + service_length v + times_length + identifier_length i + windows_length w)
-    go (Triplet t) None Absent r e = inl refl
-    go (Triplet t) None (Present x a) r e = inr (inl refl)
-    go (Triplet t) (EventId k) Absent r e = inr (inr (inl refl))
-    go (Triplet t) (TvaIdEit k) Absent r e = inr (inr (inl refl))
-    go (Triplet t) (TvaIdPes k c) Absent r e = inr (inr (inr (inl refl)))
-    go (Full b ts on sv) None Absent r e = inr (inr (inr (inr (inl refl))))
-    go (Full b ts on sv) None (Present x a) r e = inr (inr (inr (inr (inr (inl refl)))))
-    go (Full b ts on sv) (EventId k) Absent r e = inr (inr (inr (inr (inr (inr (inl refl))))))
-    go (Full b ts on sv) (TvaIdEit k) Absent r e = inr (inr (inr (inr (inr (inr (inl refl))))))
-    go (Full b ts on sv) (TvaIdPes k c) Absent r e = inr (inr (inr (inr (inr (inr (inr (inl refl)))))))
-    go v (EventId k) (Present x a) r e = absurd (true≢false e)
-    go v (TvaIdEit k) (Present x a) r e = absurd (true≢false e)
-    go v (TvaIdPes k c) (Present x a) r e = absurd (true≢false e)
+    go : (v : DvbLocatorService) (i : DvbLocatorIdentifier) (w : Windows) (r : Bool) → are_here w ≡ are_due i r → OneOf lengths (head_length + service_length v + times_length + identifier_length i + windows_length w)
+    go (Triplet t) NoIdentifier None r e = inl refl
+    go (Triplet t) NoIdentifier (Some w) r e = inr (inl refl)
+    go (Triplet t) (EventId k) None r e = inr (inr (inl refl))
+    go (Triplet t) (TvaIdEit k) None r e = inr (inr (inl refl))
+    go (Triplet t) (TvaIdPes k c) None r e = inr (inr (inr (inl refl)))
+    go (Full b ts on sv) NoIdentifier None r e = inr (inr (inr (inr (inl refl))))
+    go (Full b ts on sv) NoIdentifier (Some w) r e = inr (inr (inr (inr (inr (inl refl)))))
+    go (Full b ts on sv) (EventId k) None r e = inr (inr (inr (inr (inr (inr (inl refl))))))
+    go (Full b ts on sv) (TvaIdEit k) None r e = inr (inr (inr (inr (inr (inr (inl refl))))))
+    go (Full b ts on sv) (TvaIdPes k c) None r e = inr (inr (inr (inr (inr (inr (inr (inl refl)))))))
+    go v (EventId k) (Some w) r e = absurd (true≢false e)
+    go v (TvaIdEit k) (Some w) r e = absurd (true≢false e)
+    go v (TvaIdPes k c) (Some w) r e = absurd (true≢false e)
 
 -- so the shortest and the longest are the two ends
 pub length-between : (l : DvbBinaryLocator) → Ruled l → (shortest_locator ≤ locator_length l) × (locator_length l ≤ longest_locator)
@@ -103,5 +102,5 @@ size-eight xs = go (inline h) (eqb (type_in h) 0) (reliable h) (eqb (type_in h) 
     go true false r false a b c d = simp (a, b, d) (inr (inr (inr (inr (inr (inr (inl refl)))))))
     go true false r true a b c d = simp (a, b, d) (inr (inr (inr (inr (inr (inr (inr (inl refl))))))))
 
-pub used-eight : (xs : List ℕ) (l : DvbBinaryLocator) (n : ℕ) → read_locator xs ≡ Got l n → OneOf lengths n
+pub used-eight : (xs : List ℕ) (l : DvbBinaryLocator) (n : ℕ) → read_locator xs ≡ got_locator l n → OneOf lengths n
 used-eight xs l n e = rw (got-had xs l n e).used (size-eight xs)

@@ -14,9 +14,9 @@ use Rattle.locator.specs.declared.DvbBinaryLocator.{DvbBinaryLocator}
 use Rattle.locator.specs.declared.DvbLocatorService.{DvbLocatorService}
 use Rattle.locator.specs.declared.DvbLocatorService.TheVariants.{Triplet, Full}
 use Rattle.locator.specs.declared.DvbLocatorIdentifier.{DvbLocatorIdentifier}
-use Rattle.locator.specs.declared.DvbLocatorIdentifier.TheVariants.{None, EventId, TvaIdEit, TvaIdPes}
-use Rattle.locator.specs.declared.DvbLocatorWindows.{DvbLocatorWindows}
-use Rattle.locator.specs.declared.DvbLocatorWindows.TheVariants.{Absent, Present}
+use Rattle.locator.specs.declared.DvbLocatorIdentifier.TheVariants.{None as NoIdentifier, EventId, TvaIdEit, TvaIdPes}
+use Rattle.locator.specs.Windows.{Windows}
+use Rattle.std.specs.Prelude.{None, Some}
 
 -- ---- the head fits 16 bits
 
@@ -25,7 +25,7 @@ bit_le true = omega arith
 bit_le false = omega arith
 
 pub type-le : (i : DvbLocatorIdentifier) → type_of i ≤ 3
-type-le None = omega arith
+type-le NoIdentifier = omega arith
 type-le (EventId e) = omega arith
 type-le (TvaIdEit t) = omega arith
 type-le (TvaIdPes t c) = omega arith
@@ -47,14 +47,14 @@ service-bytes (Triplet t) c = (omega arith, tt)
 service-bytes (Full r ts on sv) c = bytes-append (bytes16 ts ++ bytes16 on) (bytes16 sv) (bytes-append (bytes16 ts) (bytes16 on) (word_bytes ts c.0) (word_bytes on c.1)) (word_bytes sv c.2)
 
 identifier-bytes : (i : DvbLocatorIdentifier) → IdentifierCarried i → Bytes (identifier_bytes i)
-identifier-bytes None c = tt
+identifier-bytes NoIdentifier c = tt
 identifier-bytes (EventId e) c = word_bytes e c
 identifier-bytes (TvaIdEit t) c = word_bytes t c
 identifier-bytes (TvaIdPes t k) c = bytes-append (bytes16 t) (k ∷ []) (word_bytes t c.0) (c.1, tt)
 
-windows-bytes : (w : DvbLocatorWindows) → WindowsFit w → Bytes (windows_bytes w)
-windows-bytes Absent f = tt
-windows-bytes (Present e a) f = (omega arith, tt)
+windows-bytes : (w : Windows) → WindowsFit w → Bytes (windows_bytes w)
+windows-bytes None f = tt
+windows-bytes (Some w) f = (omega arith, tt)
 
 -- ---- the whole
 

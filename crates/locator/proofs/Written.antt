@@ -9,24 +9,23 @@ use native.Mathlib.Nat.{zero-add}
 use lib.ListN.{length, take, drop, length-replicate, replicate-append-replicate}
 use lib.Seq.{sets, sets-eq, drop_at, take_at}
 use Rattle.byte_stores.specs.Stores.{Wrote}
-use Rattle.wire.specs.declared.verdict.Verdict.TheVariants.{Fine}
 use Rattle.field.specs.Fields.{start_date, locator_reserved, triplet_id, inline_reserved, early_start, late_end}
 use Rattle.field.proofs.Checks.{low-whole}
 use Rattle.locator.specs.Syntax.{inline_length, id_length, component_length, window_length, locator_bytes, service_length, identifier_length, windows_length, locator_length, ServiceFits, WindowsFit, Narrow, Fits, locator_of}
 use Rattle.locator.specs.Checks.{check_fields}
-use Rattle.locator.specs.Reading.{read_locator}
+use Rattle.locator.specs.Reading.{read_locator, got_locator}
 use Rattle.locator.specs.Writing.{narrowed_service, narrowed_windows, narrowed, longest_written, zeros, written_locator}
 use Rattle.locator.specs.declared.DvbBinaryLocator.{DvbBinaryLocator}
 use Rattle.locator.specs.declared.DvbLocatorService.{DvbLocatorService}
 use Rattle.locator.specs.declared.DvbLocatorService.TheVariants.{Triplet, Full}
 use Rattle.locator.specs.declared.DvbLocatorIdentifier.{DvbLocatorIdentifier}
-use Rattle.locator.specs.declared.DvbLocatorIdentifier.TheVariants.{None, EventId, TvaIdEit, TvaIdPes}
-use Rattle.locator.specs.declared.DvbLocatorWindows.{DvbLocatorWindows}
-use Rattle.locator.specs.declared.DvbLocatorWindows.TheVariants.{Absent, Present}
-use Rattle.locator.specs.declared.reading.LocatorRead.TheVariants.{Got}
+use Rattle.locator.specs.declared.DvbLocatorIdentifier.TheVariants.{None as NoIdentifier, EventId, TvaIdEit, TvaIdPes}
 use Rattle.locator.proofs.Back.{read_back}
 use Rattle.locator.proofs.Checked.{fields-narrow}
 use Rattle.locator.proofs.Sizes.{bytes-length}
+use Rattle.locator.specs.Windows.{Windows, some_windows}
+use Rattle.std.specs.Prelude.{None, Some}
+use Rattle.wire.specs.Verdict.{Fine}
 
 -- ---- lowest bits: they fit, and what fits keeps all of its own
 
@@ -34,9 +33,9 @@ service-narrow : (v : DvbLocatorService) → ServiceFits (narrowed_service v)
 service-narrow (Triplet t) = omega arith
 service-narrow (Full r ts on sv) = omega arith
 
-windows-narrow : (w : DvbLocatorWindows) → WindowsFit (narrowed_windows w)
-windows-narrow Absent = tt
-windows-narrow (Present e a) = (omega arith, omega arith)
+windows-narrow : (w : Windows) → WindowsFit (narrowed_windows w)
+windows-narrow None = tt
+windows-narrow (Some w) = (omega arith, omega arith)
 
 pub narrowed-narrow : (l : DvbBinaryLocator) → Narrow (narrowed l)
 narrowed-narrow l = record { date = omega arith; reserved = omega arith; service = service-narrow l.service; windows = windows-narrow l.windows }
@@ -45,9 +44,9 @@ service-whole : (v : DvbLocatorService) → ServiceFits v → narrowed_service v
 service-whole (Triplet t) f = ap Triplet (low-whole triplet_id t f)
 service-whole (Full r ts on sv) f = ap (λ x. Full x ts on sv) (low-whole inline_reserved r f)
 
-windows-whole : (w : DvbLocatorWindows) → WindowsFit w → narrowed_windows w ≡ w
-windows-whole Absent f = refl
-windows-whole (Present e a) f = ap₂ Present (low-whole early_start e f.0) (low-whole late_end a f.1)
+windows-whole : (w : Windows) → WindowsFit w → narrowed_windows w ≡ w
+windows-whole None f = refl
+windows-whole (Some w) f = ap₂ some_windows (low-whole early_start w.early_start_window f.0) (low-whole late_end w.late_end_window f.1)
 
 pub narrowed-same : (l : DvbBinaryLocator) → Narrow l → narrowed l ≡ l
 narrowed-same l f =
@@ -63,9 +62,9 @@ service-size : (v : DvbLocatorService) → service_length (narrowed_service v) �
 service-size (Triplet t) = refl
 service-size (Full r ts on sv) = refl
 
-windows_size : (w : DvbLocatorWindows) → windows_length (narrowed_windows w) ≡ windows_length w
-windows_size Absent = refl
-windows_size (Present e a) = refl
+windows_size : (w : Windows) → windows_length (narrowed_windows w) ≡ windows_length w
+windows_size None = refl
+windows_size (Some w) = refl
 
 pub narrowed-length : (l : DvbBinaryLocator) → locator_length (narrowed l) ≡ locator_length l
 unfolding locator_length
@@ -76,14 +75,14 @@ service-most (Triplet t) = omega arith
 service-most (Full r ts on sv) = omega arith
 
 identifier-most : (i : DvbLocatorIdentifier) → identifier_length i ≤ id_length + component_length
-identifier-most None = omega arith
+identifier-most NoIdentifier = omega arith
 identifier-most (EventId e) = omega arith
 identifier-most (TvaIdEit t) = omega arith
 identifier-most (TvaIdPes t c) = omega arith
 
-windows-most : (w : DvbLocatorWindows) → windows_length w ≤ window_length
-windows-most Absent = omega arith
-windows-most (Present e a) = omega arith
+windows-most : (w : Windows) → windows_length w ≤ window_length
+windows-most None = omega arith
+windows-most (Some w) = omega arith
 
 pub length_most : (l : DvbBinaryLocator) → locator_length l ≤ longest_written
 unfolding locator_length
@@ -140,6 +139,6 @@ written-fits l f = written-narrow l f.narrow
 pub written-checked : (l : DvbBinaryLocator) → check_fields l ≡ Fine → WrittenAs l
 written-checked l e = written-narrow l (fields-narrow l e)
 
-pub written_read : (l : DvbBinaryLocator) → Fits l → read_locator (written_locator l).bytes ≡ Got l (written_locator l).length
+pub written_read : (l : DvbBinaryLocator) → Fits l → read_locator (written_locator l).bytes ≡ got_locator l (written_locator l).length
 unfolding written_locator
 written_read l f = rw (narrowed-same l f.narrow) (read_back l (zeros (longest_written - length (locator_bytes l))) f)

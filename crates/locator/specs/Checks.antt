@@ -4,24 +4,22 @@
 use Rattle.std.specs.Bool.{xor}
 use Rattle.field.specs.Fields.{start_date, locator_reserved, triplet_id, inline_reserved, early_start, late_end, check_field}
 use Rattle.wire.specs.Refusals.{against_rule}
-use Rattle.wire.specs.Verdict.{refuse, ◌▷◌}
-use Rattle.wire.specs.declared.verdict.Verdict.{Verdict}
-use Rattle.wire.specs.declared.verdict.Verdict.TheVariants.{Fine}
+use Rattle.wire.specs.Verdict.{refuse, ◌▷◌, Fine, Verdict}
 use Rattle.locator.specs.Syntax.{are_here, are_due}
 use Rattle.locator.specs.declared.DvbBinaryLocator.{DvbBinaryLocator}
 use Rattle.locator.specs.declared.DvbLocatorService.{DvbLocatorService}
 use Rattle.locator.specs.declared.DvbLocatorService.TheVariants.{Triplet, Full}
-use Rattle.locator.specs.declared.DvbLocatorWindows.{DvbLocatorWindows}
-use Rattle.locator.specs.declared.DvbLocatorWindows.TheVariants.{Absent, Present}
+use Rattle.locator.specs.Windows.{Windows}
+use Rattle.std.specs.Prelude.{None, Some}
 
 -- fields that are absent are not checked
 abbrev pub check_service : DvbLocatorService → Verdict
 check_service (Triplet t) = check_field triplet_id t
 check_service (Full r ts on sv) = check_field inline_reserved r
 
-abbrev pub check_widths : DvbLocatorWindows → Verdict
-check_widths Absent = Fine
-check_widths (Present e a) = check_field early_start e ▷ check_field late_end a
+abbrev pub check_widths : Windows → Verdict
+check_widths None = Fine
+check_widths (Some w) = check_field early_start w.early_start_window ▷ check_field late_end w.late_end_window
 
 unfoldable pub check_fields : DvbBinaryLocator → Verdict
 check_fields l = check_field start_date l.start_date ▷ check_field locator_reserved l.reserved ▷ check_service l.service ▷ check_widths l.windows

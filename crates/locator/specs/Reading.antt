@@ -2,27 +2,25 @@
 -- locator that stands there and the bytes that it takes, which mean something where the verdict is Fine. Asked only for its
 -- size, the answer is the same verdict and the same number of bytes.
 -- Assumes nothing.
-use Rattle.std.specs.Prelude.{ℕ, ◌+◌, ◌/◌, ◌%◌, Bool, false, List, length, get_or, eqb, ltb}
+use Rattle.std.specs.Prelude.{ℕ, ◌+◌, ◌/◌, ◌%◌, Bool, false, List, length, get_or, eqb, ltb, Err, None, Ok, Result}
 use Rattle.wire.specs.Choice.{pick}
 use Rattle.wire.specs.Numbers.{be16}
 use Rattle.field.specs.Fields.{start_date, locator_reserved, triplet_id, inline_reserved, early_start, late_end, low}
 use Rattle.wire.specs.Refusals.{locator_cut}
-use Rattle.wire.specs.Verdict.{refuse, ◌▷◌}
+use Rattle.wire.specs.Verdict.{refuse, ◌▷◌, Fine, Verdict}
 use Rattle.wire.specs.declared.verdict.Refusal.{Refusal}
-use Rattle.wire.specs.declared.verdict.Verdict.{Verdict}
-use Rattle.wire.specs.declared.verdict.Verdict.TheVariants.{Fine, Refused}
 use Rattle.locator.specs.Syntax.{head_length, triplet_length, inline_length, times_length, id_length, component_length, window_length}
 use Rattle.locator.specs.declared.DvbBinaryLocator.{DvbBinaryLocator}
 use Rattle.locator.specs.declared.DvbLocatorService.{DvbLocatorService}
 use Rattle.locator.specs.declared.DvbLocatorService.TheVariants.{Triplet, Full}
 use Rattle.locator.specs.declared.DvbLocatorIdentifier.{DvbLocatorIdentifier}
-use Rattle.locator.specs.declared.DvbLocatorIdentifier.TheVariants.{None, EventId, TvaIdEit, TvaIdPes}
-use Rattle.locator.specs.declared.DvbLocatorWindows.{DvbLocatorWindows}
-use Rattle.locator.specs.declared.DvbLocatorWindows.TheVariants.{Absent, Present}
-use Rattle.locator.specs.declared.reading.LocatorSize.{LocatorSize}
-use Rattle.locator.specs.declared.reading.LocatorSize.TheVariants.{Used, Refused as NotSized}
+use Rattle.locator.specs.declared.DvbLocatorIdentifier.TheVariants.{None as NoIdentifier, EventId, TvaIdEit, TvaIdPes}
+use Rattle.locator.specs.Windows.{Windows, some_windows}
 use Rattle.locator.specs.declared.reading.LocatorRead.{LocatorRead}
-use Rattle.locator.specs.declared.reading.LocatorRead.TheVariants.{Got, Refused as NotRead}
+
+-- a locator, and how many bytes it took
+abbrev pub got_locator : DvbBinaryLocator → ℕ → Result LocatorRead Refusal
+got_locator l n = Ok (record { locator = l; used = n })
 
 -- ---- what the first 16 bits settle
 
@@ -55,12 +53,12 @@ service_at xs h = pick (inline h) (Full (low inline_reserved h) (be16 xs 2) (be1
 
 abbrev pub identifier_at : List ℕ → ℕ → ℕ → DvbLocatorIdentifier
 identifier_at xs h p =
-    pick (eqb (type_in h) 0) None
+    pick (eqb (type_in h) 0) NoIdentifier
     (pick (eqb (type_in h) 3) (TvaIdPes (be16 xs p) (get_or xs (p + id_length) 0))
     (pick (eqb (type_in h) 1) (EventId (be16 xs p)) (TvaIdEit (be16 xs p))))
 
-abbrev pub windows_at : List ℕ → ℕ → ℕ → DvbLocatorWindows
-windows_at xs h p = pick (windows_due h) (Present (low early_start (get_or xs p 0 / 32)) (low late_end (get_or xs p 0))) Absent
+abbrev pub windows_at : List ℕ → ℕ → ℕ → Windows
+windows_at xs h p = pick (windows_due h) (some_windows (low early_start (get_or xs p 0 / 32)) (low late_end (get_or xs p 0))) None
 
 -- the locator with the head h whose times start at p
 abbrev pub headed_at : List ℕ → ℕ → ℕ → DvbBinaryLocator
@@ -96,21 +94,21 @@ locator_verdict xs =
 abbrev pub cut_off : ℕ → ℕ → Refusal
 cut_off need have = record { number = locator_cut; first = need; second = have }
 
-abbrev pub cut : ℕ → ℕ → LocatorRead
-cut need have = NotRead (cut_off need have)
+abbrev pub cut : ℕ → ℕ → Result LocatorRead Refusal
+cut need have = Err (cut_off need have)
 
 -- the number of bytes alone, by the verdict
-abbrev pub sized : Verdict → ℕ → LocatorSize
-sized Fine n = Used n
-sized (Refused r) n = NotSized r
+abbrev pub sized : Verdict → ℕ → Result ℕ Refusal
+sized (Ok _) n = Ok n
+sized (Err r) n = Err r
 
-unfoldable pub locator_size : List ℕ → LocatorSize
+unfoldable pub locator_size : List ℕ → Result ℕ Refusal
 locator_size xs = sized (locator_verdict xs) (size_at xs)
 
 -- the answer that a verdict makes of what stands there
-abbrev pub answer : Verdict → DvbBinaryLocator → ℕ → LocatorRead
-answer Fine l n = Got l n
-answer (Refused r) l n = NotRead r
+abbrev pub answer : Verdict → DvbBinaryLocator → ℕ → Result LocatorRead Refusal
+answer (Ok _) l n = got_locator l n
+answer (Err r) l n = Err r
 
-unfoldable pub read_locator : List ℕ → LocatorRead
+unfoldable pub read_locator : List ℕ → Result LocatorRead Refusal
 read_locator xs = answer (locator_verdict xs) (locator_at xs) (size_at xs)

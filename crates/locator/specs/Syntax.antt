@@ -1,7 +1,7 @@
 -- The syntax of a DVB binary locator (ETSI TS 102 323, 7.3.2.3.3, Table 31): the bytes that stand for one, how many they
 -- are, and which locators have bytes. Nothing here reads.
 -- Assumes nothing.
-use Rattle.std.specs.Prelude.{ℕ, ◌+◌, ◌*◌, ◌/◌, ◌%◌, ◌≤◌, ◌<◌, ◌≡◌, Bool, true, false, List, [], ◌∷◌, ◌++◌}
+use Rattle.std.specs.Prelude.{ℕ, ◌+◌, ◌*◌, ◌/◌, ◌%◌, ◌≤◌, ◌<◌, ◌≡◌, Bool, true, false, List, [], ◌∷◌, ◌++◌, None, Some}
 use Rattle.wire.specs.Choice.{bit}
 use Rattle.wire.specs.Numbers.{bytes16}
 use Rattle.field.specs.Fields.{start_date, locator_reserved, triplet_id, inline_reserved, early_start, late_end}
@@ -9,15 +9,14 @@ use Rattle.locator.specs.declared.DvbBinaryLocator.{DvbBinaryLocator}
 use Rattle.locator.specs.declared.DvbLocatorService.{DvbLocatorService}
 use Rattle.locator.specs.declared.DvbLocatorService.TheVariants.{Triplet, Full}
 use Rattle.locator.specs.declared.DvbLocatorIdentifier.{DvbLocatorIdentifier}
-use Rattle.locator.specs.declared.DvbLocatorIdentifier.TheVariants.{None, EventId, TvaIdEit, TvaIdPes}
-use Rattle.locator.specs.declared.DvbLocatorWindows.{DvbLocatorWindows}
-use Rattle.locator.specs.declared.DvbLocatorWindows.TheVariants.{Absent, Present}
+use Rattle.locator.specs.declared.DvbLocatorIdentifier.TheVariants.{None as NoIdentifier, EventId, TvaIdEit, TvaIdPes}
+use Rattle.locator.specs.Windows.{Windows}
 
 -- ---- the bytes
 
 -- identifier_type, 2 bits (Table 32)
 abbrev pub type_of : DvbLocatorIdentifier → ℕ
-type_of None = 0
+type_of NoIdentifier = 0
 type_of (EventId e) = 1
 type_of (TvaIdEit t) = 2
 type_of (TvaIdPes t c) = 3
@@ -45,15 +44,15 @@ service_bytes (Full r ts on sv) = bytes16 ts ++ bytes16 on ++ bytes16 sv
 
 -- event_id; or TVA_id; or TVA_id and component
 abbrev pub identifier_bytes : DvbLocatorIdentifier → List ℕ
-identifier_bytes None = []
+identifier_bytes NoIdentifier = []
 identifier_bytes (EventId e) = bytes16 e
 identifier_bytes (TvaIdEit t) = bytes16 t
 identifier_bytes (TvaIdPes t c) = bytes16 t ++ c ∷ []
 
 -- early_start_window 3, late_end_window 5
-abbrev pub windows_bytes : DvbLocatorWindows → List ℕ
-windows_bytes Absent = []
-windows_bytes (Present e a) = (e * 32 + a) ∷ []
+abbrev pub windows_bytes : Windows → List ℕ
+windows_bytes None = []
+windows_bytes (Some w) = (w.early_start_window * 32 + w.late_end_window) ∷ []
 
 unfoldable pub locator_bytes : DvbBinaryLocator → List ℕ
 locator_bytes l =
@@ -95,14 +94,14 @@ service_length (Triplet t) = triplet_length
 service_length (Full r ts on sv) = inline_length
 
 abbrev pub identifier_length : DvbLocatorIdentifier → ℕ
-identifier_length None = 0
+identifier_length NoIdentifier = 0
 identifier_length (EventId e) = id_length
 identifier_length (TvaIdEit t) = id_length
 identifier_length (TvaIdPes t c) = id_length + component_length
 
-abbrev pub windows_length : DvbLocatorWindows → ℕ
-windows_length Absent = 0
-windows_length (Present e a) = window_length
+abbrev pub windows_length : Windows → ℕ
+windows_length None = 0
+windows_length (Some w) = window_length
 
 unfoldable pub locator_length : DvbBinaryLocator → ℕ
 locator_length l = head_length + service_length l.service + times_length + identifier_length l.identifier + windows_length l.windows
@@ -114,9 +113,9 @@ abbrev pub ServiceFits : DvbLocatorService → Type 0
 ServiceFits (Triplet t) = t ≤ triplet_id.widest
 ServiceFits (Full r ts on sv) = r ≤ inline_reserved.widest
 
-abbrev pub WindowsFit : DvbLocatorWindows → Type 0
-WindowsFit Absent = Unit
-WindowsFit (Present e a) = (e ≤ early_start.widest) × (a ≤ late_end.widest)
+abbrev pub WindowsFit : Windows → Type 0
+WindowsFit None = Unit
+WindowsFit (Some w) = (w.early_start_window ≤ early_start.widest) × (w.late_end_window ≤ late_end.widest)
 
 pub record Narrow (l : DvbBinaryLocator) : Type 0 where
   pub date : l.start_date ≤ start_date.widest
@@ -126,14 +125,14 @@ pub record Narrow (l : DvbBinaryLocator) : Type 0 where
 
 -- windows are present exactly if there is no identifier and reliability is set
 abbrev pub are_due : DvbLocatorIdentifier → Bool → Bool
-are_due None r = r
+are_due NoIdentifier r = r
 are_due (EventId e) r = false
 are_due (TvaIdEit t) r = false
 are_due (TvaIdPes t c) r = false
 
-abbrev pub are_here : DvbLocatorWindows → Bool
-are_here Absent = false
-are_here (Present e a) = true
+abbrev pub are_here : Windows → Bool
+are_here None = false
+are_here (Some w) = true
 
 abbrev pub Ruled : DvbBinaryLocator → Type 0
 Ruled l = are_here l.windows ≡ are_due l.identifier l.scheduled_time_reliability
@@ -144,7 +143,7 @@ ServiceCarried (Triplet t) = Unit
 ServiceCarried (Full r ts on sv) = (ts < 65536) × (on < 65536) × (sv < 65536)
 
 abbrev pub IdentifierCarried : DvbLocatorIdentifier → Type 0
-IdentifierCarried None = Unit
+IdentifierCarried NoIdentifier = Unit
 IdentifierCarried (EventId e) = e < 65536
 IdentifierCarried (TvaIdEit t) = t < 65536
 IdentifierCarried (TvaIdPes t c) = (t < 65536) × (c < 256)
@@ -168,7 +167,7 @@ inline_service r ts on sv = Full r ts on sv
 abbrev pub full_service : ℕ → ℕ → ℕ → DvbLocatorService
 full_service ts on sv = inline_service inline_reserved.widest ts on sv
 
-abbrev pub locator_of : Bool → ℕ → ℕ → DvbLocatorService → ℕ → ℕ → DvbLocatorIdentifier → DvbLocatorWindows → DvbBinaryLocator
+abbrev pub locator_of : Bool → ℕ → ℕ → DvbLocatorService → ℕ → ℕ → DvbLocatorIdentifier → Windows → DvbBinaryLocator
 locator_of r s d v t u i w = record {
   scheduled_time_reliability = r;
   reserved = s;
@@ -180,5 +179,5 @@ locator_of r s d v t u i w = record {
   windows = w;
 }
 
-abbrev pub new_locator : Bool → ℕ → DvbLocatorService → ℕ → ℕ → DvbLocatorIdentifier → DvbLocatorWindows → DvbBinaryLocator
+abbrev pub new_locator : Bool → ℕ → DvbLocatorService → ℕ → ℕ → DvbLocatorIdentifier → Windows → DvbBinaryLocator
 new_locator r d v t u i w = locator_of r locator_reserved.widest d v t u i w

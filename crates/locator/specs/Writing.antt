@@ -1,15 +1,14 @@
 -- What writing a locator gives, whatever numbers it holds: the syntax's bytes of the locator whose narrow fields are taken
 -- by their lowest bits, with zeros behind them, and how many they are. Nothing is checked here.
 -- Assumes nothing.
-use Rattle.std.specs.Prelude.{ℕ, ◌+◌, ◌-◌, List, ◌++◌, length, replicate}
+use Rattle.std.specs.Prelude.{ℕ, ◌+◌, ◌-◌, List, ◌++◌, length, replicate, None, Some}
 use Rattle.field.specs.Fields.{start_date, locator_reserved, triplet_id, inline_reserved, early_start, late_end, low}
 use Rattle.locator.specs.Syntax.{locator_bytes, longest_locator, window_length, locator_of}
 use Rattle.locator.specs.declared.DvbBinaryLocator.{DvbBinaryLocator}
 use Rattle.locator.specs.declared.DvbLocatorService.{DvbLocatorService}
 use Rattle.locator.specs.declared.DvbLocatorService.TheVariants.{Triplet, Full}
-use Rattle.locator.specs.declared.DvbLocatorWindows.{DvbLocatorWindows}
-use Rattle.locator.specs.declared.DvbLocatorWindows.TheVariants.{Absent, Present}
 use Rattle.locator.specs.declared.writing.LocatorBytes.{LocatorBytes}
+use Rattle.locator.specs.Windows.{Windows, some_windows}
 
 -- ---- by their lowest bits
 
@@ -17,9 +16,9 @@ abbrev pub narrowed_service : DvbLocatorService → DvbLocatorService
 narrowed_service (Triplet t) = Triplet (low triplet_id t)
 narrowed_service (Full r ts on sv) = Full (low inline_reserved r) ts on sv
 
-abbrev pub narrowed_windows : DvbLocatorWindows → DvbLocatorWindows
-narrowed_windows Absent = Absent
-narrowed_windows (Present e a) = Present (low early_start e) (low late_end a)
+abbrev pub narrowed_windows : Windows → Windows
+narrowed_windows None = None
+narrowed_windows (Some w) = some_windows (low early_start w.early_start_window) (low late_end w.late_end_window)
 
 abbrev pub narrowed : DvbBinaryLocator → DvbBinaryLocator
 narrowed l =

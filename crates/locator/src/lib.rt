@@ -35,12 +35,9 @@ pub enum DvbLocatorIdentifier {
 
 // How much earlier and later than its time the event may be.
 #[derive(Clone, Copy)]
-pub enum DvbLocatorWindows {
-    Absent,
-    Present {
-        early_start_window: u16,
-        late_end_window: u16,
-    },
+pub struct DvbLocatorWindows {
+    pub early_start_window: u16,
+    pub late_end_window: u16,
 }
 
 // A locator. Fields narrower than a byte, and the two of 9 and 10 bits, are carried wide, so that a number too wide for
@@ -54,7 +51,7 @@ pub struct DvbBinaryLocator {
     pub start_time: u16,
     pub duration: u16,
     pub identifier: DvbLocatorIdentifier,
-    pub windows: DvbLocatorWindows,
+    pub windows: Option<DvbLocatorWindows>,
 }
 
 impl DvbLocatorService {
@@ -128,7 +125,7 @@ impl DvbBinaryLocator {
         start: u16,
         lasting: u16,
         identifier: DvbLocatorIdentifier,
-        windows: DvbLocatorWindows,
+        windows: Option<DvbLocatorWindows>,
     ) -> DvbBinaryLocator
         ensures { result ≡ locator_of reliability reserved date service start lasting identifier windows }
     {
@@ -152,7 +149,7 @@ impl DvbBinaryLocator {
         start_time: u16,
         duration: u16,
         identifier: DvbLocatorIdentifier,
-        windows: DvbLocatorWindows,
+        windows: Option<DvbLocatorWindows>,
     ) -> DvbBinaryLocator
         ensures { result ≡ new_locator scheduled_time_reliability start_date service start_time duration identifier windows }
     {

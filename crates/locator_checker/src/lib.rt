@@ -7,10 +7,10 @@ ghost use Rattle.locator.specs.Checks.{check_service, check_widths, check_fields
 
 use field::Field;
 use locator::{DvbBinaryLocator, DvbLocatorIdentifier, DvbLocatorService, DvbLocatorWindows};
-use wire::verdict::{Refusal, Verdict, first_of};
+use wire::verdict::{Refusal, first_of};
 
 // Refusal 22 of the field with the lowest rank that is too wide.
-pub fn check_fields(locator: DvbBinaryLocator) -> Verdict
+pub fn check_fields(locator: DvbBinaryLocator) -> Result<(), Refusal>
     ensures { result ≡ check_fields locator }
 {
     let service = locator.service;
@@ -26,22 +26,22 @@ pub fn check_fields(locator: DvbBinaryLocator) -> Verdict
 }
 
 // Refusal 24 if windows are present against the rule, or missing.
-pub fn check_windows(locator: DvbBinaryLocator) -> Verdict
+pub fn check_windows(locator: DvbBinaryLocator) -> Result<(), Refusal>
     ensures { result ≡ check_windows locator }
 {
     let identifier = locator.identifier;
     let windows = locator.windows;
     if here(windows) != due(identifier, locator.scheduled_time_reliability) {
-        return Verdict::Refused(Refusal {
+        return Err(Refusal {
             number: Refusal::AGAINST_RULE,
             first: 0,
             second: 0,
         });
     }
-    Verdict::Fine
+    Ok(())
 }
 
-fn check_service(service: DvbLocatorService) -> Verdict
+fn check_service(service: DvbLocatorService) -> Result<(), Refusal>
     ensures { result ≡ check_service service }
 {
     match service {
@@ -55,27 +55,29 @@ fn check_service(service: DvbLocatorService) -> Verdict
     }
 }
 
-fn check_widths(windows: DvbLocatorWindows) -> Verdict
+fn check_widths(windows: Option<DvbLocatorWindows>) -> Result<(), Refusal>
     ensures { result ≡ check_widths windows }
 {
     match windows {
-        DvbLocatorWindows::Absent => Verdict::Fine,
-        DvbLocatorWindows::Present {
-            early_start_window,
-            late_end_window,
-        } => first_of(
+        None => Ok(()),
+        Some(
+            DvbLocatorWindows {
+                early_start_window,
+                late_end_window,
+            },
+        ) => first_of(
             Field::EARLY_START.check(early_start_window as usize),
             Field::LATE_END.check(late_end_window as usize),
         ),
     }
 }
 
-fn here(windows: DvbLocatorWindows) -> bool
+fn here(windows: Option<DvbLocatorWindows>) -> bool
     ensures { result ≡ are_here windows }
 {
     match windows {
-        DvbLocatorWindows::Absent => false,
-        DvbLocatorWindows::Present { .. } => true,
+        None => false,
+        Some(DvbLocatorWindows { .. }) => true,
     }
 }
 

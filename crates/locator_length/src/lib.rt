@@ -26,12 +26,12 @@ fn identifier_length(identifier: DvbLocatorIdentifier) -> usize
     }
 }
 
-fn windows_length(windows: DvbLocatorWindows) -> usize
+fn windows_length(windows: Option<DvbLocatorWindows>) -> usize
     ensures { (result ≡ windows_length windows) × (result ≤ window_length) }
 {
     match windows {
-        DvbLocatorWindows::Absent => 0,
-        DvbLocatorWindows::Present { .. } => DvbBinaryLocator::WINDOWS,
+        None => 0,
+        Some(DvbLocatorWindows { .. }) => DvbBinaryLocator::WINDOWS,
     }
 }
 

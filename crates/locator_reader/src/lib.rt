@@ -7,7 +7,7 @@ ghost use Rattle.locator.specs.Syntax.{head_length, inline_length, times_length,
 ghost use Rattle.locator.specs.Reading.{reliable, inline, windows_due, service_end, tail_length, service_at, identifier_at, windows_at, headed_at, cut_off, locator_size, read_locator};
 
 use field::Field;
-use locator::reading::{LocatorRead, LocatorSize};
+use locator::reading::LocatorRead;
 use locator::{DvbBinaryLocator, DvbLocatorIdentifier, DvbLocatorService, DvbLocatorWindows};
 use wire::verdict::Refusal;
 
@@ -104,18 +104,18 @@ fn identifier_at(s: &[u8], head: u16, at: usize) -> DvbLocatorIdentifier
     DvbLocatorIdentifier::TvaIdEit { tva_id: id }
 }
 
-fn windows_at(s: &[u8], head: u16, at: usize) -> DvbLocatorWindows
+fn windows_at(s: &[u8], head: u16, at: usize) -> Option<DvbLocatorWindows>
     requires { at + tail_length head ≤ length s.now }
     ensures { result ≡ windows_at s.now head at }
 {
     if windows_due(head) {
         let both = s[at] as u16;
-        DvbLocatorWindows::Present {
+        Some(DvbLocatorWindows {
             early_start_window: Field::EARLY_START.low(both / 32),
             late_end_window: Field::LATE_END.low(both),
-        }
+        })
     } else {
-        DvbLocatorWindows::Absent
+        None
     }
 }
 
@@ -148,41 +148,37 @@ fn cut(need: usize, have: usize) -> Refusal
 }
 
 // How many bytes the locator takes that the slice starts with. What follows it is not looked at.
-pub fn locator_size(s: &[u8]) -> LocatorSize
+pub fn locator_size(s: &[u8]) -> Result<usize, Refusal>
     ensures { result ≡ locator_size s.now }
 {
     let have = s.len();
     if have < DvbBinaryLocator::HEAD {
-        return LocatorSize::Refused(cut(DvbBinaryLocator::HEAD, have));
+        return Err(cut(DvbBinaryLocator::HEAD, have));
     }
     let head = be16_at(s, 0);
     let at = service_end(head);
     if have < at {
-        return LocatorSize::Refused(cut(at, have));
+        return Err(cut(at, have));
     }
     let tail = at + DvbBinaryLocator::TIMES;
     if have < tail {
-        return LocatorSize::Refused(cut(tail, have));
+        return Err(cut(tail, have));
     }
     let used = tail + tail_length(head);
     if have < used {
-        return LocatorSize::Refused(cut(used, have));
+        return Err(cut(used, have));
     }
-    LocatorSize::Used(used)
+    Ok(used)
 }
 
 // Reads the locator that the slice starts with.
-pub fn read_locator(s: &[u8]) -> LocatorRead
+pub fn read_locator(s: &[u8]) -> Result<LocatorRead, Refusal>
     ensures { result ≡ read_locator s.now }
 {
-    match locator_size(s) {
-        LocatorSize::Refused(refusal) => LocatorRead::Refused(refusal),
-        LocatorSize::Used(used) => {
-            let head = be16_at(s, 0);
-            LocatorRead::Got {
-                locator: locator_at(s, head, service_end(head)),
-                used,
-            }
-        }
-    }
+    let used = locator_size(s)?;
+    let head = be16_at(s, 0);
+    Ok(LocatorRead {
+        locator: locator_at(s, head, service_end(head)),
+        used,
+    })
 }

@@ -120,16 +120,18 @@ fn put_identifier(b: &mut [u8], at: usize, identifier: DvbLocatorIdentifier) -> 
     }
 }
 
-fn put_windows(b: &mut [u8], at: usize, windows: DvbLocatorWindows) -> usize
+fn put_windows(b: &mut [u8], at: usize, windows: Option<DvbLocatorWindows>) -> usize
     requires { at + length (windows_bytes (narrowed_windows windows)) ≤ length b.old }
     ensures { Wrote b.old at (windows_bytes (narrowed_windows windows)) b.new result }
 {
     match windows {
-        DvbLocatorWindows::Absent => at,
-        DvbLocatorWindows::Present {
-            early_start_window,
-            late_end_window,
-        } => {
+        None => at,
+        Some(
+            DvbLocatorWindows {
+                early_start_window,
+                late_end_window,
+            },
+        ) => {
             let early = Field::EARLY_START.low(early_start_window);
             let late = Field::LATE_END.low(late_end_window);
             b[at] = (early * 32 + late) as u8;

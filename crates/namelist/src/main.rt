@@ -4,11 +4,11 @@
 
 use console::Short;
 use console::print::{end_line, put_number, put_short, say};
-use field::{Field, Listed};
+use field::Field;
 use link_names::Numbers;
-use link_names::link_type::{LinkType, NamedType};
+use link_names::link_type::LinkType;
 use name_words::{scheme_name, type_name};
-use scheme_names::{HowRelated, NamedScheme};
+use scheme_names::HowRelated;
 use std::io;
 
 // One number more than a scheme can have.
@@ -39,17 +39,17 @@ fn put_class(rt: &impl Print, name: Short, number: u16, all: Numbers) -> io::Res
     put_short(rt, CLASS, [number, all.first, all.last, 0])
 }
 
-fn put_type(rt: &impl Print, named: NamedType) -> io::Result<()> {
+fn put_type(rt: &impl Print, named: Option<LinkType>) -> io::Result<()> {
     match named {
-        NamedType::Nothing => say(rt, NOTHING),
-        NamedType::Known(t) => put_class(rt, type_name(t), t.to_number(), t.numbers()),
+        None => say(rt, NOTHING),
+        Some(t) => put_class(rt, type_name(t), t.to_number(), t.numbers()),
     }
 }
 
-fn put_scheme(rt: &impl Print, named: NamedScheme) -> io::Result<()> {
+fn put_scheme(rt: &impl Print, named: Option<HowRelated>) -> io::Result<()> {
     match named {
-        NamedScheme::Nothing => say(rt, NOTHING),
-        NamedScheme::Known(h) => put_class(rt, scheme_name(h), h.to_number(), h.numbers()),
+        None => say(rt, NOTHING),
+        Some(h) => put_class(rt, scheme_name(h), h.to_number(), h.numbers()),
     }
 }
 
@@ -68,10 +68,10 @@ fn list(rt: &impl Print) -> io::Result<()> {
     Ok(())
 }
 
-fn put_listed(rt: &impl Print, listed: Listed) -> io::Result<()> {
+fn put_listed(rt: &impl Print, listed: Option<Field>) -> io::Result<()> {
     match listed {
-        Listed::Nothing => say(rt, NO_FIELD),
-        Listed::Known(field) => {
+        None => say(rt, NO_FIELD),
+        Some(field) => {
             say(rt, FIELD)?;
             put_number(rt, field.rank)?;
             say(rt, WIDEST)?;

@@ -50,11 +50,18 @@ fn put_texts(rt: &impl Print, s: &[u8], link: usize, count: usize) -> io::Result
     put_text(rt, s, link, count)
 }
 
+// The number of items, which a refused link has none of.
+fn count_items(s: &[u8], link: usize) -> usize {
+    match rct_links::read_link(s, link) {
+        Ok(read) => read.fields.number_items,
+        Err(_) => 0,
+    }
+}
+
 fn put_link(rt: &impl Print, s: &[u8], link: usize) -> io::Result<()> {
-    let read = rct_links::read_link(s, link);
     put_link_part(rt, link, BODY, link_body(s, link))?;
     put_link_part(rt, link, URI, media_uri(s, link))?;
-    put_texts(rt, s, link, read.link.fields.number_items)?;
+    put_texts(rt, s, link, count_items(s, link))?;
     put_link_part(rt, link, DESCRIPTORS, link_descriptors(s, link))
 }
 
@@ -65,10 +72,17 @@ fn put_links(rt: &impl Print, s: &[u8], count: usize) -> io::Result<()> {
     put_link(rt, s, count)
 }
 
+// The number of links, which a refused section has none of.
+fn count_links(s: &[u8]) -> usize {
+    match rct_reader::read_section(s) {
+        Ok(section) => section.number_of_links,
+        Err(_) => 0,
+    }
+}
+
 fn list(rt: &impl Print, s: &[u8]) -> io::Result<()> {
-    let read = rct_reader::read_section(s);
     rct_listing::list(rt, s, Options::none())?;
-    put_links(rt, s, read.number_of_links)?;
+    put_links(rt, s, count_links(s))?;
     put_part(rt, LOOP, loop_descriptors(s))
 }
 

@@ -9,7 +9,6 @@ use lib.ListN.{length, take, drop, length-append, length-take}
 use lib.Seq.{take_at}
 use Rattle.wire.specs.Lists.{Bytes}
 use Rattle.length_field.specs.Lengths.{longest, length_bytes, block_bytes, block_at, block_end}
-use Rattle.wire.specs.declared.verdict.Verdict.TheVariants.{Fine}
 use Rattle.wire.proofs.Lists.{bytes-at}
 use Rattle.length_field.proofs.Blocks.{block-length, BlockRead, block_back, block-rebuild, block-fits, last-pass, last-passed}
 use Rattle.wire.specs.Refusals.{loop_cut, loop_too_long, section_slack}
@@ -26,6 +25,7 @@ use Rattle.rct.specs.Syntax.{head_length, shortest, rct, Section, head_bytes, li
 use Rattle.rct.specs.Reading.{count_at, after, links_at, link_place, loop_place, section_at, links_verdict, payload_verdict, reading}
 use Rattle.rct.proofs.Head.{head-rebuild, rct-header-fits, HeadRead, head-back}
 use Rattle.rct.proofs.Links.{length-links_at, Walked, walked, place_of, LinksRead, links-back}
+use Rattle.wire.specs.Verdict.{Fine}
 
 -- ---- lengths
 

@@ -10,7 +10,6 @@ use lib.Seq.{take_at}
 use Rattle.wire.specs.Lists.{Bytes}
 use Rattle.wire.specs.Numbers.{bytes32}
 use Rattle.length_field.specs.Lengths.{longest, block_bytes}
-use Rattle.wire.specs.declared.verdict.Verdict.TheVariants.{Fine}
 use Rattle.wire.proofs.Lists.{bytes-append}
 use Rattle.wire.proofs.Words.{length-bytes32, bytes32-bytes}
 use Rattle.length_field.proofs.Blocks.{block-bytes}
@@ -27,6 +26,7 @@ use Rattle.rct.specs.Reading.{count_at, section_at, payload_verdict, reading, nu
 use Rattle.rct.proofs.Head.{head_bytes_lem}
 use Rattle.rct.proofs.Links.{entry-fits, length-links_at}
 use Rattle.rct.proofs.Accepted.{length-section, shortest-least, rebuilt, back, crc-least}
+use Rattle.wire.specs.Verdict.{Fine}
 
 -- ---- against the plain reading
 

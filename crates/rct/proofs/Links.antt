@@ -8,10 +8,9 @@ use mathlib.Core.List.{List, [], ◌∷◌, ◌++◌, append_assoc, append-nil}
 use lib.ListN.{length, take, drop, get_or, length-append}
 use Rattle.wire.specs.Lists.{Bytes}
 use Rattle.length_field.specs.Lengths.{length_at, beside_at, Block, BlockFits, block_bytes, block_at, block_end}
-use Rattle.wire.specs.declared.verdict.Verdict.TheVariants.{Fine}
 use Rattle.wire.proofs.Lists.{bytes-part, length_part}
 use Rattle.length_field.proofs.Blocks.{length-short, beside-narrow, block-length, BlockRead, block_back, block-rebuild, block-passed, block-pass}
-use Rattle.wire.specs.Verdict.{◌▷◌}
+use Rattle.wire.specs.Verdict.{◌▷◌, Fine}
 use Rattle.wire.proofs.Verdicts.{then-fine, fine-then, go_on, then-assoc}
 use Rattle.link.specs.Syntax.{Link, link_body, entry_of}
 use Rattle.link.specs.Reading.{body_verdict, link_at}

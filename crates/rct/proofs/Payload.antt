@@ -13,15 +13,14 @@ use borrow.Author.Tests.{ltb-true, ltb-false}
 use Rattle.wire.specs.Lists.{part}
 use Rattle.length_field.specs.Lengths.{length_at, beside_at, block_end, long_row, block_verdict, last_verdict}
 use Rattle.wire.specs.Refusals.{entry_cut, link_too_long, loop_cut, loop_too_long}
-use Rattle.wire.specs.Verdict.{◌▷◌}
-use Rattle.wire.specs.declared.verdict.Verdict.{Verdict}
-use Rattle.wire.specs.declared.verdict.Verdict.TheVariants.{Fine, Refused}
+use Rattle.wire.specs.Verdict.{◌▷◌, Fine, Verdict}
 use Rattle.length_field.proofs.Blocks.{block-passed, block-cut, block-left}
 use Rattle.wire.proofs.Lists.{part-part}
 use Rattle.wire.proofs.Verdicts.{then-fine, go_on, refused-then}
 use Rattle.link.specs.Reading.{body_verdict, link_at}
 use Rattle.rct.proofs.Links.{entry-passed}
 use Rattle.rct.specs.Reading.{body_in, link_in, after, links_at, entry_verdict, links_verdict, loop_verdict}
+use Rattle.std.specs.Prelude.{Err, Ok}
 
 -- ---- one entry
 
@@ -57,8 +56,8 @@ behind-same : (cut long : ℕ) (xs : List ℕ) (e p : ℕ) (w v : Verdict) → (
 behind-same cut long xs e p w v same = by (block_verdict cut long xs e p) refl
   where
     by : (u : Verdict) → block_verdict cut long xs e p ≡ u → block_verdict cut long (take e xs) e p ▷ w ≡ block_verdict cut long xs e p ▷ v
-    by Fine f = go_on _ w (rows_same cut long xs e p ∙ f) ∙ same (block-passed _ _ _ _ xs e p f) ∙ sym (go_on _ v f)
-    by (Refused r) f = refused-then _ w r (rows_same cut long xs e p ∙ f) ∙ sym (refused-then _ v r f)
+    by (Ok _) f = go_on _ w (rows_same cut long xs e p ∙ f) ∙ same (block-passed _ _ _ _ xs e p f) ∙ sym (go_on _ v f)
+    by (Err r) f = refused-then _ w r (rows_same cut long xs e p ∙ f) ∙ sym (refused-then _ v r f)
 
 entry-same : (xs : List ℕ) (e p : ℕ) → entry_verdict (take e xs) e p ≡ entry_verdict xs e p
 unfolding entry_verdict
@@ -82,8 +81,8 @@ links-same (suc n) xs e p = by (entry_verdict xs e p) refl (links-same n xs e (b
   where
     by : (v : Verdict) → entry_verdict xs e p ≡ v → links_verdict n (take e xs) e (block_end xs p) ≡ links_verdict n xs e (block_end xs p)
         → links_verdict (suc n) (take e xs) e p ≡ links_verdict (suc n) xs e p
-    by Fine f rest = go_on _ _ (entry-same xs e p ∙ f) ∙ ap (links_verdict n (take e xs) e) (end_same xs e p f) ∙ rest ∙ sym (go_on _ _ f)
-    by (Refused r) f rest = refused-then _ _ r (entry-same xs e p ∙ f) ∙ sym (refused-then _ _ r f)
+    by (Ok _) f rest = go_on _ _ (entry-same xs e p ∙ f) ∙ ap (links_verdict n (take e xs) e) (end_same xs e p f) ∙ rest ∙ sym (go_on _ _ f)
+    by (Err r) f rest = refused-then _ _ r (entry-same xs e p ∙ f) ∙ sym (refused-then _ _ r f)
 
 pub record Alike (n : ℕ) (xs : List ℕ) (e p : ℕ) : Type 0 where
   pub place : after n (take e xs) p ≡ after n xs p

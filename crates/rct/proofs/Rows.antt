@@ -7,8 +7,7 @@ use mathlib.Core.Path.{◌≡◌, refl}
 use mathlib.Core.List.{List, [], ◌∷◌}
 use lib.ListN.{take, replicate}
 use Rattle.length_field.specs.Lengths.{block_rows, last_verdict}
-use Rattle.wire.specs.Verdict.{bad, refuse, ◌▷◌}
-use Rattle.wire.specs.declared.verdict.Verdict.TheVariants.{Fine}
+use Rattle.wire.specs.Verdict.{bad, refuse, ◌▷◌, Fine}
 use Rattle.frame.specs.Reading.{checked_demands, opened, reading_by, checked_by}
 use Rattle.rct.specs.Reading.{payload_verdict, reading, plain, checked}
 

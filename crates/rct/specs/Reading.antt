@@ -5,9 +5,7 @@ use Rattle.wire.specs.Lists.{part}
 use Rattle.wire.specs.Numbers.{be16}
 use Rattle.length_field.specs.Lengths.{length_at, beside_at, block_at, block_end, block_verdict, last_verdict}
 use Rattle.wire.specs.Refusals.{entry_cut, link_too_long, loop_cut, loop_too_long, section_slack}
-use Rattle.wire.specs.Verdict.{counted_row, ◌▷◌}
-use Rattle.wire.specs.declared.verdict.Verdict.{Verdict}
-use Rattle.wire.specs.declared.verdict.Verdict.TheVariants.{Fine}
+use Rattle.wire.specs.Verdict.{counted_row, ◌▷◌, Fine, Verdict}
 use Rattle.link.specs.Syntax.{Link}
 use Rattle.link.specs.Reading.{body_verdict, link_at}
 use Rattle.section_header.specs.Reading.{header_at}

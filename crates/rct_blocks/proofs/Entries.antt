@@ -6,14 +6,13 @@ use native.Mathlib.Numerals.{add-one}
 use native.Mathlib.Omega.{arith}
 use mathlib.Core.List.{List}
 use Rattle.length_field.specs.Lengths.{block_end}
-use Rattle.wire.specs.Verdict.{reached, ◌▷◌}
+use Rattle.wire.specs.Verdict.{reached, ◌▷◌, Fine}
 use Rattle.wire.specs.declared.verdict.Refusal.{Refusal}
-use Rattle.wire.specs.declared.verdict.Verdict.TheVariants.{Fine, Refused}
-use Rattle.wire.specs.declared.verdict.Reached.TheVariants as reach
 use Rattle.length_field.proofs.Blocks.{block-passed}
 use Rattle.wire.proofs.Verdicts.{go_on, refused-then, reached-at}
 use Rattle.link.specs.Reading.{body_verdict}
 use Rattle.rct.specs.Reading.{body_in, after, entry_rows, entry_verdict, links_verdict}
+use Rattle.std.specs.Prelude.{Err, Ok}
 
 -- ---- one entry
 
@@ -25,14 +24,14 @@ module _ (xs : List ℕ) (e p : ℕ) where
     pub behind : p + 2 ≤ t
     pub within : t ≤ e
 
-  pub length-passed : (t : ℕ) → reached (entry_rows xs e p) (block_end xs p) ≡ reach.At t → Passed t
+  pub length-passed : (t : ℕ) → reached (entry_rows xs e p) (block_end xs p) ≡ Ok t → Passed t
   length-passed t q =
       let g = reached-at _ _ _ q in
       let w : block_end xs p ≤ e = block-passed _ _ _ _ xs e p g.0 in
       let z : block_end xs p ≡ t = g.1 in
       record { fine = g.0; place = z; behind = omega arith; within = omega arith }
 
-  pub entry-stop : (r : Refusal) → entry_rows xs e p ≡ Refused r → entry_verdict xs e p ≡ Refused r
+  pub entry-stop : (r : Refusal) → entry_rows xs e p ≡ Err r → entry_verdict xs e p ≡ Err r
   unfolding entry_verdict
   entry-stop r v = refused-then _ _ r v
 
@@ -56,5 +55,5 @@ module _ (xs : List ℕ) (e n i p : ℕ) (h : i < n) where
   pub turn_on : entry_verdict xs e p ≡ Fine → links_verdict (n - i) xs e p ≡ links_verdict (n - (i + 1)) xs e (block_end xs p)
   turn_on v = turn ∙ go_on _ _ v
 
-  pub turn-stop : (r : Refusal) → entry_verdict xs e p ≡ Refused r → links_verdict (n - i) xs e p ≡ Refused r
+  pub turn-stop : (r : Refusal) → entry_verdict xs e p ≡ Err r → links_verdict (n - i) xs e p ≡ Err r
   turn-stop r v = turn ∙ refused-then _ _ r v

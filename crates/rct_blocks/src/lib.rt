@@ -10,7 +10,7 @@ ghost use Rattle.rct_blocks.specs.Ends.{end_of};
 
 use frame::Table;
 use length_field::LengthField;
-use wire::verdict::{Reached, Refusal, Verdict};
+use wire::verdict::Refusal;
 
 // Of a slice that is longer than a payload can be no more is looked at.
 fn limited(len: usize) -> usize
@@ -24,14 +24,14 @@ fn limited(len: usize) -> usize
 }
 
 // Over the entry at a place of a payload, its body not looked at: refusals 4 and 5.
-pub fn past_entry_length(payload: &[u8], at: u16) -> Reached
+pub fn past_entry_length(payload: &[u8], at: u16) -> Result<usize, Refusal>
     ensures { result ≡ reached (entry_rows payload.now (end_of payload.now) at) (block_end payload.now at) }
 {
     let end = limited(payload.len());
     let entry_at = at as usize;
     let start = entry_at + LengthField::BYTES;
     if end < start {
-        return Reached::Refused(Refusal {
+        return Err(Refusal {
             number: Refusal::ENTRY_CUT,
             first: start,
             second: end,
@@ -40,24 +40,24 @@ pub fn past_entry_length(payload: &[u8], at: u16) -> Reached
     let field = LengthField::of_bytes(payload[entry_at], payload[entry_at + 1]);
     let next = start + field.length;
     if end < next {
-        return Reached::Refused(Refusal {
+        return Err(Refusal {
             number: Refusal::LINK_TOO_LONG,
             first: field.length,
             second: end - start,
         });
     }
-    Reached::At(next)
+    Ok(next)
 }
 
 // The descriptor loop at a place of a payload, with which the payload ends: refusals 17 to 19.
-pub fn check_loop(payload: &[u8], at: u16) -> Verdict
+pub fn check_loop(payload: &[u8], at: u16) -> Result<(), Refusal>
     ensures { result ≡ loop_verdict payload.now (end_of payload.now) at }
 {
     let loop_end = limited(payload.len());
     let loop_at = at as usize;
     let start = loop_at + LengthField::BYTES;
     if loop_end < start {
-        return Verdict::Refused(Refusal {
+        return Err(Refusal {
             number: Refusal::LOOP_CUT,
             first: start,
             second: loop_end,

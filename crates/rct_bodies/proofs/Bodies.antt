@@ -10,12 +10,10 @@ use Rattle.wire.specs.Lists.{Bytes}
 use Rattle.length_field.specs.Lengths.{length_at, beside_at, block_end}
 use Rattle.wire.specs.Refusals.{no_such_number}
 use Rattle.spans.specs.Spans.{span, span_of, span_in}
-use Rattle.wire.specs.Verdict.{bad}
+use Rattle.wire.specs.Verdict.{bad, Fine, Verdict}
 use Rattle.wire.specs.declared.verdict.Refusal.{Refusal}
-use Rattle.wire.specs.declared.verdict.Verdict.{Verdict}
-use Rattle.wire.specs.declared.verdict.Verdict.TheVariants.{Fine, Refused}
 use Rattle.spans.proofs.SpanLaws.{span-inside}
-use Rattle.wire.proofs.Verdicts.{then-fine, fine-then, go_on, refused-then, refused-row, passed-leb, pass-leb}
+use Rattle.wire.proofs.Verdicts.{then-fine, fine-then, go_on, refused-then, refused-row, passed-leb, pass-leb, ok-same}
 use Rattle.link.specs.Syntax.{Link}
 use Rattle.link.specs.Reading.{body_verdict}
 use Rattle.frame.specs.Syntax.{longest_payload}
@@ -24,17 +22,17 @@ use Rattle.rct.specs.Syntax.{head_length}
 use Rattle.rct.specs.Reading.{link_in, count_at, link_place, section_at, plain, number_row}
 use Rattle.rct.proofs.Accepted.{accepted}
 use Rattle.rct.proofs.Links.{found}
-use Rattle.rct_walker.specs.Places.{link_span, places_at}
+use Rattle.rct_walker.specs.Places.{link_span, places_at, some_span}
 use Rattle.rct_walker.proofs.Walks.{span-known, span-absent}
 use Rattle.rct_walker.specs.declared.RctPlaces.{RctPlaces}
-use Rattle.rct_walker.specs.declared.LinkSpan.TheVariants as spot
-use Rattle.rct_bodies.specs.Bodies.{link_rows, body_place, body_of, body_answer, numbered_body}
+use Rattle.rct_bodies.specs.Bodies.{link_rows, body_place, body_of, found_body, body_answer, numbered_body}
 use Rattle.rct_bodies.specs.declared.NumberedBody.{NumberedBody}
+use Rattle.std.specs.Prelude.{Err, None, Ok}
 
 -- ---- the rows of link k
 
 module _ (xs : List ℕ) (k : ℕ) where
-  pub rows-stop : (r : Refusal) → plain xs ≡ Refused r → link_rows xs k ≡ Refused r
+  pub rows-stop : (r : Refusal) → plain xs ≡ Err r → link_rows xs k ≡ Err r
   unfolding link_rows
   rows-stop r v = refused-then _ _ r v
 
@@ -80,7 +78,7 @@ module _ (xs : List ℕ) (k : ℕ) (n : RctPlaces) (is : n ≡ places_at xs k) (
   spanned : n.link ≡ link_span xs k
   spanned = ap (λ (m : RctPlaces). m.link) is
 
-  pub at-known : (p q : ℕ) → Bytes xs → k < n.count → n.link ≡ spot.At p q → AtKnown xs k p
+  pub at-known : (p q : ℕ) → Bytes xs → k < n.count → n.link ≡ some_span p q → AtKnown xs k p
   at-known p q b h e =
       let below : k < count_at xs = omega (arith, counted) in
       let rows = rows-fine xs k v below in
@@ -91,26 +89,32 @@ module _ (xs : List ℕ) (k : ℕ) (n : RctPlaces) (is : n ≡ places_at xs k) (
   pub at-21 : n.count ≤ k → link_rows xs k ≡ bad no_such_number k n.count
   at-21 h = rows-21 xs k v (omega (arith, counted)) ∙ rw counted
 
-  pub at-never : k < n.count → n.link ≡ spot.NoSuchLink → ⊥
+  pub at-never : k < n.count → n.link ≡ None → ⊥
   at-never h e = span-absent xs k (sym spanned ∙ e) (omega (arith, counted))
 
 module _ (xs : List ℕ) (k : ℕ) where
-  pub body_refused : (r : Refusal) → link_rows xs k ≡ Refused r → body_answer (Refused r) 0 0 0 ≡ numbered_body xs k
+  pub body_refused : (r : Refusal) → link_rows xs k ≡ Err r → Err r ≡ numbered_body xs k
   unfolding numbered_body body_answer
   body_refused r v = rw v
 
   pub body-found : (r p n : ℕ) → link_rows xs k ≡ Fine → r ≡ beside_at xs (link_place xs k) → p ≡ body_place xs k → n ≡ length_at xs (link_place xs k)
-      → record { verdict = Fine; reserved = r; body = span p n } ≡ numbered_body xs k
+      → found_body r p n ≡ numbered_body xs k
   unfolding numbered_body body_answer
   body-found r p n v a b c = rw (v, a, b, c)
 
-  pub body-verdict : (numbered_body xs k).verdict ≡ link_rows xs k
+  -- and back
+  pub body-stopped : (r : Refusal) → numbered_body xs k ≡ Err r → link_rows xs k ≡ Err r
   unfolding numbered_body body_answer
-  body-verdict = go (link_rows xs k)
+  body-stopped r = go (link_rows xs k) _ _ _
     where
-      go : (v : Verdict) → (body_answer v (beside_at xs (link_place xs k)) (body_place xs k) (length_at xs (link_place xs k))).verdict ≡ v
-      go Fine = refl
-      go (Refused r) = refl
+      go : (v : Verdict) (b p n : ℕ) → body_answer v b p n ≡ Err r → v ≡ Err r
+      go (Ok _) b p n e = let z : ◌≡◌ {A = ℕ} 0 1 = cc in absurd (omega arith)
+      go (Err q) b p n e = cc
+
+body-had : (v : Verdict) (b p q : ℕ) (n : NumberedBody) → body_answer v b p q ≡ Ok n → (v ≡ Fine) × (record { reserved = b; body = span p q } ≡ n)
+unfolding body_answer
+body-had (Ok _) b p q n e = (refl, ok-same _ _ e)
+body-had (Err r) b p q n e = let z : ◌≡◌ {A = ℕ} 0 1 = cc in absurd (omega arith)
 
 -- what a body that was found says
 pub record BodyKnown (xs : List ℕ) (k : ℕ) (n : NumberedBody) : Type 0 where
@@ -121,15 +125,15 @@ pub record BodyKnown (xs : List ℕ) (k : ℕ) (n : NumberedBody) : Type 0 where
   pub good : body_verdict (body_of xs k) ≡ Fine
   pub bytes : span_of xs (span_in xs n.body) ≡ body_of xs k
 
-pub body-known : (xs : List ℕ) (k : ℕ) (n : NumberedBody) → Bytes xs → n ≡ numbered_body xs k → n.verdict ≡ Fine → BodyKnown xs k n
-unfolding numbered_body body_answer
-body-known xs k n b e v =
-    let rows : link_rows xs k ≡ Fine = sym (body-verdict xs k) ∙ sym (ap (λ (m : NumberedBody). m.verdict) e) ∙ v in
-    let l = link-known xs k b rows in
-    let is : n ≡ record { verdict = Fine; reserved = beside_at xs (link_place xs k); body = span (body_place xs k) (length_at xs (link_place xs k)) } = e ∙ rw rows in
+pub body-known : (xs : List ℕ) (k : ℕ) (n : NumberedBody) → Bytes xs → numbered_body xs k ≡ Ok n → BodyKnown xs k n
+unfolding numbered_body
+body-known xs k n b e =
+    let had = body-had (link_rows xs k) _ _ _ n e in
+    let l = link-known xs k b had.0 in
+    let is : n ≡ record { reserved = beside_at xs (link_place xs k); body = span (body_place xs k) (length_at xs (link_place xs k)) } = sym had.1 in
     let start : n.body.start ≡ body_place xs k = ap (λ (m : NumberedBody). m.body.start) is in
     record {
-      rows = rows;
+      rows = had.0;
       reserved = ap (λ (m : NumberedBody). m.reserved) is;
       start = start;
       short = omega (arith, start, l.within, l.short);

@@ -1,5 +1,4 @@
 -- The laws of the body of a link by number, and that the public contract leaves one outcome.
 pub mod Bodies
-pub mod Nothing
 pub mod Listed
 pub mod Unique

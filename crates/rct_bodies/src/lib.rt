@@ -1,44 +1,29 @@
 // Where the body of a link stands in its section, by number.
 #![tactic(auto)]
 
-ghost use Rattle.std.specs.Prelude.{◌≡◌};
+ghost use Rattle.std.specs.Prelude.{◌≡◌, Err};
 ghost use Rattle.wire.specs.Refusals.{no_such_number};
-ghost use Rattle.wire.specs.Verdict.{bad};
-ghost use Rattle.wire.specs.declared.verdict.Verdict.TheVariants.{Fine, Refused};
+ghost use Rattle.wire.specs.Verdict.{Fine};
 ghost use Rattle.rct.specs.Reading.{plain};
 ghost use Rattle.rct_walker.specs.Places.{places_at};
-ghost use Rattle.rct_bodies.specs.Bodies.{body_answer, numbered_body};
+ghost use Rattle.rct_bodies.specs.Bodies.{numbered_body};
 
 use length_field::LengthField;
-use rct_walker::{LinkSpan, RctPlaces, RctWalked};
+use rct_walker::{LinkSpan, RctPlaces};
 use spans::Span;
-use wire::verdict::{Refusal, Verdict};
+use wire::verdict::Refusal;
 
-// Where the body of a link stands in its section and the four bits before its length, or the refusal beside zeros.
+// Where the body of a link stands in its section, and the four bits before its length.
 #[derive(Drop)]
 pub struct NumberedBody {
-    pub verdict: Verdict,
     pub reserved: u16,
     pub body: Span,
 }
 
-fn no_body(refusal: Refusal) -> NumberedBody
-    ensures { result ≡ body_answer (Refused refusal) 0 0 0 }
+fn no_such(number: usize, count: usize) -> Result<NumberedBody, Refusal>
+    ensures { result ≡ Err (record { number = no_such_number; first = number; second = count }) }
 {
-    NumberedBody {
-        verdict: Verdict::Refused(refusal),
-        reserved: 0,
-        body: Span {
-            start: 0,
-            length: 0,
-        },
-    }
-}
-
-fn no_such(number: usize, count: usize) -> NumberedBody
-    ensures { result ≡ body_answer (bad no_such_number number count) 0 0 0 }
-{
-    no_body(Refusal {
+    Err(Refusal {
         number: Refusal::NO_SUCH_NUMBER,
         first: number,
         second: count,
@@ -46,7 +31,7 @@ fn no_such(number: usize, count: usize) -> NumberedBody
 }
 
 // The body of link `number` of an accepted section.
-fn body_at(s: &[u8], places: RctPlaces, number: usize) -> NumberedBody
+fn body_at(s: &[u8], places: RctPlaces, number: usize) -> Result<NumberedBody, Refusal>
     requires { (places ≡ places_at s.now number) × (plain s.now ≡ Fine) }
     ensures { result ≡ numbered_body s.now number }
 {
@@ -55,28 +40,24 @@ fn body_at(s: &[u8], places: RctPlaces, number: usize) -> NumberedBody
     }
     let link = places.link;
     match link {
-        LinkSpan::At { start, end: _ } => {
+        Some(LinkSpan { start, end: _ }) => {
             let field = LengthField::of_bytes(s[start], s[start + 1]);
-            NumberedBody {
-                verdict: Verdict::Fine,
+            Ok(NumberedBody {
                 reserved: field.beside as u16,
                 body: Span {
                     start: start + LengthField::BYTES,
                     length: field.length,
                 },
-            }
+            })
         }
-        LinkSpan::NoSuchLink => no_such(number, places.count),
+        None => no_such(number, places.count),
     }
 }
 
 // The body of a link by number: the plain reading, then 21 (number, count).
-pub fn numbered_body(s: &[u8], number: usize) -> NumberedBody
+pub fn numbered_body(s: &[u8], number: usize) -> Result<NumberedBody, Refusal>
     ensures { result ≡ numbered_body s.now number }
 {
-    let found = rct_readings::plain_places(s, number);
-    match found {
-        RctWalked::Read(places) => body_at(s, places, number),
-        RctWalked::Refused(r) => no_body(r),
-    }
+    let places = rct_readings::plain_places(s, number)?;
+    body_at(s, places, number)
 }

@@ -10,7 +10,6 @@ use lib.Seq.{take_at}
 use Rattle.wire.specs.Choice.{pick}
 use Rattle.wire.specs.Lists.{Bytes}
 use Rattle.length_field.specs.Lengths.{length_at, beside_at, block_end}
-use Rattle.wire.specs.declared.verdict.Verdict.TheVariants.{Fine}
 use Rattle.length_field.proofs.Blocks.{length-short, beside-narrow}
 use Rattle.wire.proofs.Lists.{length_part}
 use Rattle.wire.proofs.Verdicts.{then-fine, fine-then}
@@ -20,8 +19,6 @@ use Rattle.link.specs.Syntax.{Link, LinkFits, head_length, uri_due}
 use Rattle.link.specs.Reading.{type_at, uri_start, items_place, item_count, item_end, item_verdict, items_verdict, body_verdict}
 use Rattle.link.specs.Records.{no_item, filled, item_infos, fields_at, info_at, link_of}
 use Rattle.link.specs.declared.LinkItem.{LinkItem}
-use Rattle.link.specs.declared.MediaUri.TheVariants as uri
-use Rattle.link.specs.declared.reading.LinkRead.{LinkRead}
 use Rattle.link.proofs.Bounds.{body-known, front-known, rest-known}
 use Rattle.link.proofs.Filling.{length-infos}
 use Rattle.link.proofs.Items.{item-passed}
@@ -39,7 +36,7 @@ use Rattle.rct.proofs.Accepted.{Accepted, accepted, accepted-fits}
 use Rattle.rct.proofs.Checked.{Holds}
 use Rattle.rct.proofs.Links.{entry_read_lem}
 use Rattle.rct_blocks.proofs.Entries.{after_next}
-use Rattle.rct_reader.specs.Sections.{section_read}
+use Rattle.rct_reader.specs.Sections.{section_info}
 use Rattle.rct_bodies.specs.Bodies.{body_place, body_of}
 use Rattle.rct_bodies.proofs.Bodies.{rows-fine, LinkKnown, link-known}
 use Rattle.rct_links.specs.Links.{entry_info, numbered_link}
@@ -50,12 +47,15 @@ use Rattle.rct_edit.specs.Calls.{making, appending}
 use Rattle.rct_edit.proofs.Calls.{Stepped, append-can, append-stepped, appended-verdict}
 use Rattle.rct_edit.proofs.Rebuilt.{appends, NoneRefused}
 use Rattle.rct_demands.specs.Again.{links_from, made_again, append_all, AllAccepted}
+use Rattle.std.specs.Prelude.{None, Some}
+use Rattle.wire.specs.Verdict.{Fine}
+use Rattle.link.specs.Answers.{link_got}
 
 -- ---- the ranges of a record that was read lie in the text that its body is of
 
 module _ (t : List ℕ) (base : ℕ) (ys : List ℕ) (within : base + length ys ≤ length t) where
   uri-within : (b : Bool) → pick b (uri_start + get_or ys head_length 0) head_length ≤ length ys
-      → UriWithin t (pick b (uri.Present (record { start = base + uri_start; length = get_or ys head_length 0 })) uri.Absent)
+      → UriWithin t (pick b (Some (record { start = base + uri_start; length = get_or ys head_length 0 })) None)
   uri-within true h = omega arith
   uri-within false h = tt
 
@@ -112,14 +112,14 @@ module _ (xs : List ℕ) (b : Bytes xs) (v : plain xs ≡ Fine) where
     read_fits : LinkFits (link_in xs (link_place xs k))
     read_fits = (entry_read_lem xs (link_place xs k) b inside known.good).fit.link
 
-    read_is : (numbered_link xs k).link ≡ entry_info xs (link_place xs k)
-    read_is = ap (λ (r : LinkRead). r.link) (link-answer xs b k v h)
+    read_is : link_got (numbered_link xs k) ≡ entry_info xs (link_place xs k)
+    read_is = ap link_got (link-answer xs b k v h)
 
-    read-image : link_of xs (numbered_link xs k).link ≡ link_in xs (link_place xs k)
+    read-image : link_of xs (link_got (numbered_link xs k)) ≡ link_in xs (link_place xs k)
     read-image = link_image xs b k v h (link_in xs (link_place xs k)) ∙ known.link (link_in xs (link_place xs k))
 
-    read-passes : check_link xs (numbered_link xs k).link ≡ Fine
-    read-passes = fits-check xs (numbered_link xs k).link (rw read-image read_fits) (rw read_is stands)
+    read-passes : check_link xs (link_got (numbered_link xs k)) ≡ Fine
+    read-passes = fits-check xs (link_got (numbered_link xs k)) (rw read-image read_fits) (rw read_is stands)
       where
         size : length (body_of xs k) ≡ length_at xs (link_place xs k)
         size = length_part xs (body_place xs k) (length_at xs (link_place xs k)) (omega (arith, inside))
@@ -127,7 +127,7 @@ module _ (xs : List ℕ) (b : Bytes xs) (v : plain xs ≡ Fine) where
         stands : Stands xs (entry_info xs (link_place xs k))
         stands = read-stands xs (body_place xs k) (body_of xs k) (omega (arith, size, inside)) (beside_at xs (link_place xs k)) known.good
 
-    append-again : (zs : List ℕ) → appending zs xs (numbered_link xs k).link ≡ appended zs Fine (link_in xs (link_place xs k))
+    append-again : (zs : List ℕ) → appending zs xs (link_got (numbered_link xs k)) ≡ appended zs Fine (link_in xs (link_place xs k))
     unfolding appending
     append-again zs = rw (read-passes, read-image)
 
@@ -144,8 +144,8 @@ module _ (xs : List ℕ) (b : Bytes xs) (v : plain xs ≡ Fine) where
       let l : Link = link_in xs (link_place xs k) in
       let same = append-again k below o.buffer in
       let next : link_place xs (k + 1) ≡ block_end xs (link_place xs k) = after_next k xs section.head_length in
-      let one : Held (appending o.buffer xs (numbered_link xs k).link) = rw same (next-held o l (read_fits k below) e r.0) in
-      let i = ran n (k + 1) (appending o.buffer xs (numbered_link xs k).link) (omega arith) one (rw (same, next) r.1) in
+      let one : Held (appending o.buffer xs (link_got (numbered_link xs k))) = rw same (next-held o l (read_fits k below) e r.0) in
+      let i = ran n (k + 1) (appending o.buffer xs (link_got (numbered_link xs k))) (omega arith) one (rw (same, next) r.1) in
       record {
         accepted = (e.verdict, i.accepted);
         buffer = i.buffer ∙ rw (same, next);
@@ -154,9 +154,9 @@ module _ (xs : List ℕ) (b : Bytes xs) (v : plain xs ≡ Fine) where
 
 -- ---- the header and the loop
 
-pub make-again : (xs : List ℕ) (b : Bytes xs) → plain xs ≡ Fine → (header_at xs).section_syntax_indicator ≡ true → (zs : List ℕ) → made_again zs xs ≡ made zs Fine (bare (section_at xs).header (section_at xs).loop)
-unfolding making section_at section_read
-make-again xs b v i zs = rw (v, passes)
+pub make-again : (xs : List ℕ) (b : Bytes xs) → plain xs ≡ Fine → (header_at xs).section_syntax_indicator ≡ true → (zs : List ℕ) → made_again zs xs (section_info xs) ≡ made zs Fine (bare (section_at xs).header (section_at xs).loop)
+unfolding making section_at
+make-again xs b v i zs = rw passes
   where
     a : Accepted plain_demands xs
     a = accepted plain_demands xs b v

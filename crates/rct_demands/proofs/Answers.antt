@@ -1,58 +1,54 @@
 -- What the reading calls answer of a buffer, by the syntax's records that it holds; what lies behind the section that was written.
 -- Assumes nothing.
 use Prim.Native.Nat.{ℕ, zero, suc, ◌-◌, ◌<◌}
-use mathlib.Core.Path.{◌≡◌, refl, sym, ap, subst, ◌∙◌}
+use mathlib.Core.Path.{◌≡◌, refl, sym, ap, ◌∙◌}
 use native.Mathlib.Omega.{arith}
 use mathlib.Core.List.{List, [], ◌∷◌, map}
 use lib.ListN.{length, take, get_or, length-append, length-take}
 use lib.Seq.{get_or-take}
 use Rattle.wire.specs.Lists.{Bytes}
-use Rattle.wire.specs.declared.verdict.Verdict.{Verdict}
-use Rattle.wire.specs.declared.verdict.Verdict.TheVariants.{Fine, Refused}
 use Rattle.link.specs.Syntax.{Item, Link}
 use Rattle.link.specs.Reading.{item_count}
 use Rattle.link.specs.Records.{range_of, item_of, items_of, link_of, no_item, filled, item_infos, fields_at, info_at}
 use Rattle.link.specs.declared.LinkInfo.{LinkInfo}
 use Rattle.link.specs.declared.LinkItem.{LinkItem}
-use Rattle.link.specs.declared.reading.LinkRead.{LinkRead}
 use Rattle.link.proofs.Filling.{length-infos}
 use Rattle.frame.specs.Reading.{total_of}
 use Rattle.rct.specs.Syntax.{Section}
 use Rattle.rct.specs.Reading.{count_at, link_place, section_at, plain, checked}
 use Rattle.rct.proofs.Checked.{count_is}
-use Rattle.rct_reader.specs.Sections.{section_read}
+use Rattle.rct_reader.specs.Sections.{section_info}
 use Rattle.rct_reader.specs.declared.RctSection.{RctSection}
+use Rattle.rct_reader.proofs.Wholes.{fine-read}
 use Rattle.rct_bodies.specs.Bodies.{body_of}
 use Rattle.rct_links.specs.Links.{entry_info, numbered_link}
 use Rattle.rct_links.proofs.Images.{link-answer, item-answer}
 use Rattle.rct_edit.specs.Edit.{written, Outcome}
 use Rattle.rct_edit.proofs.ReadsBack.{ReadsBack}
 use Rattle.rct_demands.specs.Back.{SameLink, SameItem, LinkBack, SectionBack}
+use Rattle.std.specs.Prelude.{Err, Ok}
+use Rattle.wire.specs.Verdict.{Fine, Verdict, verdict_of}
+use Rattle.link.specs.Answers.{link_got}
 
 -- ---- either reading of a buffer that it accepts
 
-pub read-verdict : (v : Verdict) (xs : List ℕ) → (section_read v xs).verdict ≡ v
-unfolding section_read
-read-verdict Fine xs = refl
-read-verdict (Refused r) xs = refl
-
 pub record Answers (xs : List ℕ) (r : RctSection) : Type 0 where
-  pub verdict : r.verdict ≡ Fine
   pub total : r.total ≡ total_of xs
   pub header : r.header ≡ (section_at xs).header
   pub links : r.number_of_links ≡ count_at xs
   pub reserved : r.reserved_descriptor_loop_length ≡ (section_at xs).loop.beside
   pub loop : range_of xs r.descriptors ≡ (section_at xs).loop.body
 
-pub answers : (xs : List ℕ) (v : Verdict) → v ≡ Fine → Answers xs (section_read v xs)
-unfolding section_read section_at
-answers xs v e = subst (λ w. Answers xs (section_read w xs)) (sym e) (record { verdict = refl; total = refl; header = refl; links = refl; reserved = refl; loop = refl })
+pub answers : (xs : List ℕ) → Answers xs (section_info xs)
+unfolding section_at
+answers xs = record { total = refl; header = refl; links = refl; reserved = refl; loop = refl }
 
 pub section-back : (s : Section) (o : Outcome) → ReadsBack s o → SectionBack o s.header (length s.links) s.loop.beside s.loop.body
 section-back s o r =
-    let a = answers o.buffer (checked o.buffer) r.passed in
+    let a = answers o.buffer in
     record {
-      verdict = a.verdict;
+      read = section_info o.buffer;
+      answer = fine-read (checked o.buffer) o.buffer r.passed;
       total = a.total ∙ r.total;
       header = a.header ∙ ap (λ (z : Section). z.header) r.same;
       links = a.links ∙ sym (count_is o.buffer) ∙ ap (λ (z : Section). length z.links) r.same;
@@ -76,32 +72,32 @@ held : (is : List LinkItem) (base n : ℕ) (xs : List ℕ) (p : ℕ) → is ≡ 
 held is base n xs p e = rw e (simp (length-take, length-append, length-infos base n xs p) (omega arith))
 
 module _ (ys : List ℕ) (b : Bytes ys) (v : plain ys ≡ Fine) (k : ℕ) (h : k < count_at ys) where
-  is : (numbered_link ys k).link ≡ entry_info ys (link_place ys k)
-  is = ap (λ (r : LinkRead). r.link) (link-answer ys b k v h)
+  is : link_got (numbered_link ys k) ≡ entry_info ys (link_place ys k)
+  is = ap link_got (link-answer ys b k v h)
 
-  counted : (numbered_link ys k).link.fields.number_items ≡ item_count (body_of ys k)
+  counted : (link_got (numbered_link ys k)).fields.number_items ≡ item_count (body_of ys k)
   unfolding info_at fields_at
   counted = ap (λ (r : LinkInfo). r.fields.number_items) is
 
-  counts : length (items_of (numbered_link ys k).link) ≡ item_count (body_of ys k)
+  counts : length (items_of (link_got (numbered_link ys k))) ≡ item_count (body_of ys k)
   unfolding info_at fields_at
   counts = ap (λ (r : LinkInfo). length (items_of r)) is ∙ held _ _ (item_count (body_of ys k)) (body_of ys k) _ refl
 
-  module _ (t : List ℕ) (a : LinkInfo) (e : SameLink ys (numbered_link ys k).link t a) where
-    items-same : map (item_of ys) (items_of (numbered_link ys k).link) ≡ map (item_of t) (items_of a)
+  module _ (t : List ℕ) (a : LinkInfo) (e : SameLink ys (link_got (numbered_link ys k)) t a) where
+    items-same : map (item_of ys) (items_of (link_got (numbered_link ys k))) ≡ map (item_of t) (items_of a)
     unfolding link_of
     items-same = ap (λ (l : Link). l.items) e
 
     count_same : item_count (body_of ys k) ≡ length (items_of a)
-    count_same = sym counts ∙ sym (length-map (item_of ys) (items_of (numbered_link ys k).link)) ∙ ap length items-same ∙ length-map (item_of t) (items_of a)
+    count_same = sym counts ∙ sym (length-map (item_of ys) (items_of (link_got (numbered_link ys k)))) ∙ ap length items-same ∙ length-map (item_of t) (items_of a)
 
-    item-same : (i : ℕ) → i < length (items_of a) → SameItem ys (get_or (numbered_link ys k).link.items i no_item) t (get_or a.items i no_item)
+    item-same : (i : ℕ) → i < length (items_of a) → SameItem ys (get_or (link_got (numbered_link ys k)).items i no_item) t (get_or a.items i no_item)
     item-same i l =
-        let n : ℕ = (numbered_link ys k).link.fields.number_items in
+        let n : ℕ = (link_got (numbered_link ys k)).fields.number_items in
         let below : i < n = omega (arith, counted, count_same) in
         let shown : i < a.fields.number_items = omega (arith, length-take a.fields.number_items a.items) in
-        ap (item_of ys) (sym (get_or-take n (numbered_link ys k).link.items i no_item below))
-        ∙ sym (map_at (item_of ys) (items_of (numbered_link ys k).link) i (item_of t no_item) (omega (arith, counts, count_same)))
+        ap (item_of ys) (sym (get_or-take n (link_got (numbered_link ys k)).items i no_item below))
+        ∙ sym (map_at (item_of ys) (items_of (link_got (numbered_link ys k))) i (item_of t no_item) (omega (arith, counts, count_same)))
         ∙ ap (λ z. get_or z i (item_of t no_item)) items-same
         ∙ map_at (item_of t) (items_of a) i (item_of t no_item) l
         ∙ ap (item_of t) (get_or-take a.fields.number_items a.items i no_item shown)
@@ -109,7 +105,7 @@ module _ (ys : List ℕ) (b : Bytes ys) (v : plain ys ≡ Fine) (k : ℕ) (h : k
     pub link-back : LinkBack ys k t a
     link-back =
         record {
-          verdict = ap (λ (r : LinkRead). r.verdict) (link-answer ys b k v h);
+          verdict = ap verdict_of (link-answer ys b k v h);
           same = e;
           count = counted ∙ count_same;
           items = λ i l. record { read = _; answer = item-answer ys b k v h i (omega (arith, count_same)); same = item-same i l };

@@ -7,10 +7,8 @@ use mathlib.Core.Bool.{Bool, true, false}
 use mathlib.Core.List.{List}
 use Rattle.wire.specs.Lists.{Bytes}
 use Rattle.wire.specs.Refusals.{no_syntax_indicator}
-use Rattle.wire.specs.Verdict.{bad}
+use Rattle.wire.specs.Verdict.{bad, Fine, Verdict}
 use Rattle.wire.specs.declared.verdict.Refusal.{Refusal}
-use Rattle.wire.specs.declared.verdict.Verdict.{Verdict}
-use Rattle.wire.specs.declared.verdict.Verdict.TheVariants.{Fine, Refused}
 use Rattle.link.specs.Records.{link_of}
 use Rattle.link.specs.declared.LinkInfo.{LinkInfo}
 use Rattle.link.specs.declared.Range.{Range}
@@ -25,27 +23,29 @@ use Rattle.rct_edit.specs.Making.{HeaderCarried}
 use Rattle.rct_edit.specs.Calls.{making, appending, replacing}
 use Rattle.rct_edit.proofs.Calls.{replaced-refused, appended-refused}
 use Rattle.rct_edit.proofs.MakingOrder.{making-unindicated}
-use Rattle.rct_demands.specs.Back.{plain_read, checked_read}
+use Rattle.rct_demands.specs.Back.{checked_read}
 use Rattle.rct_demands.specs.Again.{made_again}
-use Rattle.rct_demands.proofs.Answers.{read-verdict}
+use Rattle.rct_reader.specs.declared.RctSection.{RctSection}
+use Rattle.rct_reader.proofs.Wholes.{read-fine}
 use Rattle.rct_demands.proofs.ReadBack.{made-reads-back, replaced-reads-back, appended-reads-back}
+use Rattle.std.specs.Prelude.{Err, Ok}
 
 abbrev pub indicated : List ℕ → Bool
 indicated xs = (header_at xs).section_syntax_indicator
 
 -- whatever the checked reading's call accepts has it
-pub checked-indicated : (xs : List ℕ) → (checked_read xs).verdict ≡ Fine → indicated xs ≡ true
-checked-indicated xs e = ((checked-iff xs).0 (sym (read-verdict (checked xs) xs) ∙ e)).indicated
+pub checked-indicated : (xs : List ℕ) (s : RctSection) → checked_read xs ≡ Ok s → indicated xs ≡ true
+checked-indicated xs s e = ((checked-iff xs).0 (read-fine (checked xs) xs s e).0).indicated
 
 -- ---- making
 
 pub made-indicated : (xs : List ℕ) (h : RctHeader) (beside : ℕ) (t : List ℕ) (d : Range) → Bytes t → HeaderCarried h → (making xs h beside t d).verdict ≡ Fine
     → indicated (making xs h beside t d).buffer ≡ true
-made-indicated xs h beside t d bt c a = checked-indicated _ (made-reads-back xs h beside t d bt c a).section.verdict
+made-indicated xs h beside t d bt c a = checked-indicated _ _ (made-reads-back xs h beside t d bt c a).section.answer
 
--- what plain reading answers of a section without it, and beside a refusal, is refused: 38 (0, 0)
-pub not-made-again : (xs zs : List ℕ) → (plain_read xs).header.section.section_syntax_indicator ≡ false → (made_again zs xs).verdict ≡ bad no_syntax_indicator 0 0
-not-made-again xs zs e = (making-unindicated zs (plain_read xs).header _ xs (plain_read xs).descriptors 0 0).1 (record { clear = e; figures = (refl, refl) })
+-- what plain reading answers of a section without it, and any other record without it, is refused: 38 (0, 0)
+pub not-made-again : (xs zs : List ℕ) (s : RctSection) → s.header.section.section_syntax_indicator ≡ false → (made_again zs xs s).verdict ≡ bad no_syntax_indicator 0 0
+not-made-again xs zs s e = (making-unindicated zs s.header _ xs s.descriptors 0 0).1 (record { clear = e; figures = (refl, refl) })
 
 -- ---- append and replace
 
@@ -54,21 +54,21 @@ abbrev Both : List ℕ → Outcome → Type 0
 Both xs o = (indicated xs ≡ true) × (indicated o.buffer ≡ true)
 
 -- a call that leaves a refused buffer as it was, and accepts only where it was there and then is there
-keeps : (xs : List ℕ) (o : Outcome) (v : Verdict) → o.verdict ≡ v → ((r : Refusal) → o.verdict ≡ Refused r → o.buffer ≡ xs) → (o.verdict ≡ Fine → Both xs o)
+keeps : (xs : List ℕ) (o : Outcome) (v : Verdict) → o.verdict ≡ v → ((r : Refusal) → o.verdict ≡ Err r → o.buffer ≡ xs) → (o.verdict ≡ Fine → Both xs o)
     → indicated o.buffer ≡ indicated xs
-keeps xs o Fine e refused accepted = let two = accepted e in two.1 ∙ sym two.0
-keeps xs o (Refused r) e refused accepted = ap indicated (refused r e)
+keeps xs o (Ok _) e refused accepted = let two = accepted e in two.1 ∙ sym two.0
+keeps xs o (Err r) e refused accepted = ap indicated (refused r e)
 
 module _ (xs : List ℕ) (b : Bytes xs) (t : List ℕ) (a : LinkInfo) (bt : Bytes t) (c : Carried a) where
   pub appended-indicated : (appending xs t a).verdict ≡ Fine → Both xs (appending xs t a)
-  appended-indicated f = let r = appended-reads-back xs b t a bt c f in (checked-indicated xs r.was, checked-indicated _ r.section.verdict)
+  appended-indicated f = let r = appended-reads-back xs b t a bt c f in (checked-indicated xs _ r.was, checked-indicated _ _ r.section.answer)
 
   pub appended-keeps : indicated (appending xs t a).buffer ≡ indicated xs
   unfolding appending
   appended-keeps = keeps xs (appending xs t a) _ refl (λ r e. (appended-refused xs (check_link t a) (link_of t a) r e).buffer) appended-indicated
 
   pub replaced-indicated : (k : ℕ) → (replacing xs k t a).verdict ≡ Fine → Both xs (replacing xs k t a)
-  replaced-indicated k f = let r = replaced-reads-back xs b t a bt c k f in (checked-indicated xs r.was, checked-indicated _ r.section.verdict)
+  replaced-indicated k f = let r = replaced-reads-back xs b t a bt c k f in (checked-indicated xs _ r.was, checked-indicated _ _ r.section.answer)
 
   pub replaced-keeps : (k : ℕ) → indicated (replacing xs k t a).buffer ≡ indicated xs
   unfolding replacing

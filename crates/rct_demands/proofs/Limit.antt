@@ -2,11 +2,10 @@
 -- and replace leave. A section with more is not edited: 28 with its own section_length and 4093, and its bytes stay.
 -- Assumes nothing.
 use Prim.Native.Nat.{ℕ, ◌≤◌}
-use mathlib.Core.Path.{◌≡◌, sym, ◌∙◌}
+use mathlib.Core.Path.{◌≡◌, ap}
 use native.Mathlib.Omega.{arith}
 use mathlib.Core.List.{List}
 use Rattle.wire.specs.Lists.{Bytes}
-use Rattle.wire.specs.declared.verdict.Verdict.TheVariants.{Fine}
 use Rattle.link.specs.Records.{link_of}
 use Rattle.link.specs.declared.LinkInfo.{LinkInfo}
 use Rattle.link.specs.declared.Range.{Range}
@@ -24,18 +23,21 @@ use Rattle.rct_edit.specs.Calls.{making, appending, replacing}
 use Rattle.rct_edit.proofs.Calls.{Unchanged, replaced-refused, appended-refused}
 use Rattle.rct_edit.proofs.Order.{replacing-above, appending-above}
 use Rattle.rct_demands.specs.Back.{checked_read, SectionBack}
-use Rattle.rct_demands.proofs.Answers.{read-verdict, answers}
+use Rattle.rct_reader.specs.declared.RctSection.{RctSection}
+use Rattle.rct_reader.proofs.Wholes.{read-fine}
 use Rattle.rct_demands.proofs.ReadBack.{made-reads-back, replaced-reads-back, appended-reads-back}
+use Rattle.std.specs.Prelude.{Ok}
+use Rattle.wire.specs.Verdict.{Fine}
 
-pub checked-most : (xs : List ℕ) → (checked_read xs).verdict ≡ Fine → (checked_read xs).total ≤ 4096
-checked-most xs e =
-    let v : checked xs ≡ Fine = sym (read-verdict (checked xs) xs) ∙ e in
-    omega (arith, (answers xs (checked xs) v).total, ((checked-iff xs).0 v).limited)
+pub checked-most : (xs : List ℕ) (s : RctSection) → checked_read xs ≡ Ok s → s.total ≤ 4096
+checked-most xs s e =
+    let h = read-fine (checked xs) xs s e in
+    omega (arith, ap (λ (z : RctSection). z.total) h.1, ((checked-iff xs).0 h.0).limited)
 
 -- ---- what a call accepts
 
 back-most : (o : Outcome) (h : RctHeader) (n beside : ℕ) (descriptors : List ℕ) → SectionBack o h n beside descriptors → o.total ≤ 4096
-back-most o h n beside descriptors b = omega (arith, checked-most o.buffer b.verdict, b.total)
+back-most o h n beside descriptors b = omega (arith, checked-most o.buffer b.read b.answer, b.total)
 
 pub made-most : (xs : List ℕ) (h : RctHeader) (beside : ℕ) (t : List ℕ) (d : Range) → Bytes t → HeaderCarried h → (making xs h beside t d).verdict ≡ Fine
     → (making xs h beside t d).total ≤ 4096

@@ -7,7 +7,6 @@ use mathlib.Core.List.{List}
 use lib.ListN.{length}
 use Rattle.wire.specs.Lists.{Bytes}
 use Rattle.length_field.specs.Lengths.{Block}
-use Rattle.wire.specs.declared.verdict.Verdict.TheVariants.{Fine}
 use Rattle.wire.proofs.Lists.{bytes-part}
 use Rattle.link.specs.Syntax.{Link, LinkFits}
 use Rattle.link.specs.Records.{link_of}
@@ -21,6 +20,8 @@ use Rattle.rct.specs.declared.RctHeader.{RctHeader}
 use Rattle.rct.specs.Syntax.{Section}
 use Rattle.rct.specs.Reading.{number_row, count_at, section_at, checked}
 use Rattle.rct.proofs.Checked.{count_is, number_passed}
+use Rattle.rct_reader.specs.Sections.{section_info}
+use Rattle.rct_reader.proofs.Wholes.{fine-read}
 use Rattle.rct_edit.specs.Edit.{bare, with_link, with_next, written, fresh, replace_verdict, Outcome}
 use Rattle.rct_edit.specs.Making.{check_making, HeaderCarried, loop_of}
 use Rattle.rct_edit.specs.Calls.{making, appending, replacing}
@@ -28,9 +29,10 @@ use Rattle.rct_edit.proofs.Calls.{Stepped, Parts, edit-passed, replaced-verdict,
 use Rattle.rct_edit.proofs.Narrow.{header-written, loop-narrow}
 use Rattle.rct_edit.proofs.Records.{length-with, length-next}
 use Rattle.rct_edit.proofs.ReadsBack.{ReadsBack, made-back, replaced-back, replaced-named, replaced-others, replaced-count, appended-back, appended-last, appended-others, appended-count, fresh-behind}
-use Rattle.rct_demands.specs.Back.{checked_read, MadeBack, SectionKept, ReplacedBack, AppendedBack}
+use Rattle.rct_demands.specs.Back.{MadeBack, SectionKept, ReplacedBack, AppendedBack}
 use Rattle.rct_demands.proofs.Answers.{Answers, answers, section-back}
 use Rattle.rct_demands.proofs.Edits.{link-written, link-kept, behind-written}
+use Rattle.wire.specs.Verdict.{Fine}
 
 -- ---- making
 
@@ -72,12 +74,13 @@ module _ (xs : List ℕ) (b : Bytes xs) (t : List ℕ) (a : LinkInfo) (bt : Byte
   good = check-fits t a bt c
 
   -- a section with other links, by the old answers
-  kept : (s : Section) (n : ℕ) (o : Outcome) → checked xs ≡ Fine → s.header ≡ (section_at xs).header → s.loop ≡ (section_at xs).loop → length s.links ≡ n → ReadsBack s o → SectionKept xs o n
-  kept s n o v eh el en r =
-      let old = answers xs (checked xs) v in
+  kept : (s : Section) (n : ℕ) (o : Outcome) → s.header ≡ (section_at xs).header → s.loop ≡ (section_at xs).loop → length s.links ≡ n → ReadsBack s o → SectionKept xs (section_info xs) o n
+  kept s n o eh el en r =
+      let old = answers xs in
       let new = section-back s o r in
       record {
-        verdict = new.verdict;
+        read = new.read;
+        answer = new.answer;
         total = new.total;
         header = new.header ∙ eh ∙ sym old.header;
         links = new.links ∙ en;
@@ -89,12 +92,13 @@ module _ (xs : List ℕ) (b : Bytes xs) (t : List ℕ) (a : LinkInfo) (bt : Byte
   unfolding replacing
   replaced-reads-back k f =
       record {
-        was = old.verdict;
-        below = omega (arith, old.links, below);
+        old = section_info xs;
+        was = fine-read (checked xs) xs v;
+        below = omega (arith, told.links, below);
         syntax = reads.same;
-        section = unfold with_link in kept s (checked_read xs).number_of_links o v refl refl (length-with (section_at xs) k l ∙ count_is xs ∙ sym old.links) reads;
+        section = unfold with_link in kept s (section_info xs).number_of_links o refl refl (length-with (section_at xs) k l ∙ count_is xs ∙ sym told.links) reads;
         named = link-written xs b v s o st k t a (omega (arith, count, below)) (λ d. replaced-named xs b (check_link t a) l good k d f below);
-        others = λ i h n. link-kept xs b v s o st i (omega (arith, old.links)) (omega (arith, count, old.links)) (λ d. replaced-others xs b (check_link t a) l good k i d f n);
+        others = λ i h n. link-kept xs b v s o st i (omega (arith, told.links)) (omega (arith, count, told.links)) (λ d. replaced-others xs b (check_link t a) l good k i d f n);
         behind = behind-written xs b v s o st;
       }
     where
@@ -113,8 +117,8 @@ module _ (xs : List ℕ) (b : Bytes xs) (t : List ℕ) (a : LinkInfo) (bt : Byte
       v : checked xs ≡ Fine
       v = replace-checked xs k (check_link t a) l fine
 
-      old : Answers xs (checked_read xs)
-      old = answers xs (checked xs) v
+      told : Answers xs (section_info xs)
+      told = answers xs
 
       below : k < count_at xs
       below = unfold replace_verdict in number_passed xs k (edit-passed xs (number_row xs k) (check_link t a) s fine).row_fine
@@ -132,11 +136,12 @@ module _ (xs : List ℕ) (b : Bytes xs) (t : List ℕ) (a : LinkInfo) (bt : Byte
   unfolding appending
   appended-reads-back f =
       record {
-        was = old.verdict;
+        old = section_info xs;
+        was = fine-read (checked xs) xs v;
         syntax = reads.same;
-        section = unfold with_next in kept s ((checked_read xs).number_of_links + 1) o v refl refl (length-next (section_at xs) l ∙ ap (λ n. n + 1) (count_is xs ∙ sym old.links)) reads;
-        last = rw old.links (link-written xs b v s o st (count_at xs) t a (omega (arith, count)) (λ d. appended-last xs b (check_link t a) l good d f));
-        others = λ i h. link-kept xs b v s o st i (omega (arith, old.links)) (omega (arith, count, old.links)) (λ d. appended-others xs b (check_link t a) l good i d f (omega (arith, old.links)));
+        section = unfold with_next in kept s ((section_info xs).number_of_links + 1) o refl refl (length-next (section_at xs) l ∙ ap (λ n. n + 1) (count_is xs ∙ sym told.links)) reads;
+        last = rw told.links (link-written xs b v s o st (count_at xs) t a (omega (arith, count)) (λ d. appended-last xs b (check_link t a) l good d f));
+        others = λ i h. link-kept xs b v s o st i (omega (arith, told.links)) (omega (arith, count, told.links)) (λ d. appended-others xs b (check_link t a) l good i d f (omega (arith, told.links)));
         behind = behind-written xs b v s o st;
       }
     where
@@ -152,8 +157,8 @@ module _ (xs : List ℕ) (b : Bytes xs) (t : List ℕ) (a : LinkInfo) (bt : Byte
       v : checked xs ≡ Fine
       v = append-checked xs (check_link t a) l (sym (appended-verdict xs (check_link t a) l) ∙ f)
 
-      old : Answers xs (checked_read xs)
-      old = answers xs (checked xs) v
+      told : Answers xs (section_info xs)
+      told = answers xs
 
       reads : ReadsBack s o
       reads = appended-back xs b (check_link t a) l good f

@@ -6,7 +6,6 @@ use mathlib.Core.Logic.{◌≢◌}
 use mathlib.Core.List.{List}
 use lib.ListN.{length}
 use Rattle.wire.specs.Lists.{Bytes}
-use Rattle.wire.specs.declared.verdict.Verdict.TheVariants.{Fine}
 use Rattle.link.specs.Records.{link_of}
 use Rattle.link.specs.declared.LinkInfo.{LinkInfo}
 use Rattle.link_draft.specs.Carried.{Carried}
@@ -18,6 +17,7 @@ use Rattle.rct.specs.Reading.{section_at}
 use Rattle.rct_edit.specs.Edit.{with_link}
 use Rattle.rct_edit.specs.Calls.{replacing}
 use Rattle.rct_edit.proofs.TwoOrders.{Ends, two-orders}
+use Rattle.wire.specs.Verdict.{Fine}
 
 pub two-desks : (xs : List ℕ) (k j : ℕ) (t u : List ℕ) (a b : LinkInfo) → Bytes xs → Bytes t → Bytes u → Carried a → Carried b → k ≢ j
     → (replacing xs k t a).verdict ≡ Fine

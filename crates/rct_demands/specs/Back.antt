@@ -1,13 +1,11 @@
 -- What the reading calls answer of a buffer that a call has written, and what lies behind the section there.
 -- Assumes nothing.
-use Rattle.std.specs.Prelude.{ℕ, ◌+◌, ◌-◌, ◌<◌, max, ◌≡◌, ◌≢◌, List, length, drop, get_or, replicate}
+use Rattle.std.specs.Prelude.{ℕ, ◌+◌, ◌-◌, ◌<◌, max, ◌≡◌, ◌≢◌, List, length, drop, get_or, replicate, Ok, Result}
 use Rattle.wire.specs.Lists.{part}
-use Rattle.wire.specs.declared.verdict.Verdict.TheVariants.{Fine}
 use Rattle.link.specs.Records.{range_of, item_of, items_of, link_of, no_item}
 use Rattle.link.specs.declared.Range.{Range}
 use Rattle.link.specs.declared.LinkInfo.{LinkInfo}
 use Rattle.link.specs.declared.LinkItem.{LinkItem}
-use Rattle.link.specs.declared.reading.ItemRead.TheVariants as item
 use Rattle.rct.specs.declared.RctHeader.{RctHeader}
 use Rattle.rct.specs.Reading.{section_at, plain, checked}
 use Rattle.rct_reader.specs.Sections.{section_read}
@@ -15,13 +13,16 @@ use Rattle.rct_reader.specs.declared.RctSection.{RctSection}
 use Rattle.rct_links.specs.Links.{numbered_link, numbered_item}
 use Rattle.rct_edit.specs.Edit.{bare, with_link, with_next, Outcome}
 use Rattle.rct_edit.specs.Making.{loop_of}
+use Rattle.wire.specs.Verdict.{Fine, verdict_of}
+use Rattle.link.specs.Answers.{link_got}
+use Rattle.wire.specs.declared.verdict.Refusal.{Refusal}
 
 -- ---- the answers of the two readings
 
-abbrev pub plain_read : List ℕ → RctSection
+abbrev pub plain_read : List ℕ → Result RctSection Refusal
 plain_read xs = section_read (plain xs) xs
 
-abbrev pub checked_read : List ℕ → RctSection
+abbrev pub checked_read : List ℕ → Result RctSection Refusal
 checked_read xs = section_read (checked xs) xs
 
 -- ---- records that are equal
@@ -39,29 +40,30 @@ SameItem t a u b = item_of t a ≡ item_of u b
 -- item by number: item i of link k in ys equals the item a with the text t
 pub record ItemBack (ys : List ℕ) (k i : ℕ) (t : List ℕ) (a : LinkItem) : Type 0 where
   pub read : LinkItem
-  pub answer : numbered_item ys k i ≡ item.Got read
+  pub answer : numbered_item ys k i ≡ Ok read
   pub same : SameItem ys read t a
 
 -- link by number: link k in ys equals the record a with the text t, and so do its items by number, as many as count in a
 pub record LinkBack (ys : List ℕ) (k : ℕ) (t : List ℕ) (a : LinkInfo) : Type 0 where
-  pub verdict : (numbered_link ys k).verdict ≡ Fine
-  pub same : SameLink ys (numbered_link ys k).link t a
-  pub count : (numbered_link ys k).link.fields.number_items ≡ length (items_of a)
+  pub verdict : verdict_of (numbered_link ys k) ≡ Fine
+  pub same : SameLink ys (link_got (numbered_link ys k)) t a
+  pub count : (link_got (numbered_link ys k)).fields.number_items ≡ length (items_of a)
   pub items : (i : ℕ) → i < length (items_of a) → ItemBack ys k i t (get_or a.items i no_item)
 
 -- link k was read in xs, and is read in ys as it was
 pub record LinkKept (xs ys : List ℕ) (k : ℕ) : Type 0 where
-  pub was : (numbered_link xs k).verdict ≡ Fine
-  pub is : LinkBack ys k xs (numbered_link xs k).link
+  pub was : verdict_of (numbered_link xs k) ≡ Fine
+  pub is : LinkBack ys k xs (link_got (numbered_link xs k))
 
 -- the checked reading of the buffer that a call left: fine, with the total that the call answered, the header h, n links, and the descriptor loop's bits and bytes
 pub record SectionBack (o : Outcome) (h : RctHeader) (n beside : ℕ) (descriptors : List ℕ) : Type 0 where
-  pub verdict : (checked_read o.buffer).verdict ≡ Fine
-  pub total : (checked_read o.buffer).total ≡ o.total
-  pub header : (checked_read o.buffer).header ≡ h
-  pub links : (checked_read o.buffer).number_of_links ≡ n
-  pub reserved : (checked_read o.buffer).reserved_descriptor_loop_length ≡ beside
-  pub loop : range_of o.buffer (checked_read o.buffer).descriptors ≡ descriptors
+  pub read : RctSection
+  pub answer : checked_read o.buffer ≡ Ok read
+  pub total : read.total ≡ o.total
+  pub header : read.header ≡ h
+  pub links : read.number_of_links ≡ n
+  pub reserved : read.reserved_descriptor_loop_length ≡ beside
+  pub loop : range_of o.buffer read.descriptors ≡ descriptors
 
 -- ---- behind the section, which ended at old in xs and ends at new in ys
 
@@ -81,27 +83,29 @@ pub record MadeBack (xs : List ℕ) (h : RctHeader) (beside : ℕ) (t : List ℕ
   pub size : length o.buffer ≡ length xs
   pub past : drop o.total o.buffer ≡ drop o.total xs
 
--- the header and the loop as the checked reading answered them before, and n links
-abbrev pub SectionKept : List ℕ → Outcome → ℕ → Type 0
-SectionKept xs o n = SectionBack o (checked_read xs).header n (checked_read xs).reserved_descriptor_loop_length (range_of xs (checked_read xs).descriptors)
+-- the header and the loop as the checked reading answered them before, in the record old, and n links
+abbrev pub SectionKept : List ℕ → RctSection → Outcome → ℕ → Type 0
+SectionKept xs old o n = SectionBack o old.header n old.reserved_descriptor_loop_length (range_of xs old.descriptors)
 
 -- Link k is the one that was handed in, with the text t; every other link is as it was, and there are as many.
 -- From a new end to the old one the buffer is 0xFF, and every byte past both is as it was.
 pub record ReplacedBack (xs : List ℕ) (k : ℕ) (t : List ℕ) (a : LinkInfo) (o : Outcome) : Type 0 where
-  pub was : (checked_read xs).verdict ≡ Fine
-  pub below : k < (checked_read xs).number_of_links
+  pub old : RctSection
+  pub was : checked_read xs ≡ Ok old
+  pub below : k < old.number_of_links
   pub syntax : section_at o.buffer ≡ with_link (section_at xs) k (link_of t a)
-  pub section : SectionKept xs o (checked_read xs).number_of_links
+  pub section : SectionKept xs old o old.number_of_links
   pub named : LinkBack o.buffer k t a
-  pub others : (i : ℕ) → i < (checked_read xs).number_of_links → i ≢ k → LinkKept xs o.buffer i
-  pub behind : Behind xs o.buffer (checked_read xs).total o.total
+  pub others : (i : ℕ) → i < old.number_of_links → i ≢ k → LinkKept xs o.buffer i
+  pub behind : Behind xs o.buffer old.total o.total
 
 -- The link that was handed in, with the text t, is the last, one more than there were; every link before it is as it was.
 -- Behind the section as with replacing.
 pub record AppendedBack (xs : List ℕ) (t : List ℕ) (a : LinkInfo) (o : Outcome) : Type 0 where
-  pub was : (checked_read xs).verdict ≡ Fine
+  pub old : RctSection
+  pub was : checked_read xs ≡ Ok old
   pub syntax : section_at o.buffer ≡ with_next (section_at xs) (link_of t a)
-  pub section : SectionKept xs o ((checked_read xs).number_of_links + 1)
-  pub last : LinkBack o.buffer (checked_read xs).number_of_links t a
-  pub others : (i : ℕ) → i < (checked_read xs).number_of_links → LinkKept xs o.buffer i
-  pub behind : Behind xs o.buffer (checked_read xs).total o.total
+  pub section : SectionKept xs old o (old.number_of_links + 1)
+  pub last : LinkBack o.buffer old.number_of_links t a
+  pub others : (i : ℕ) → i < old.number_of_links → LinkKept xs o.buffer i
+  pub behind : Behind xs o.buffer old.total o.total

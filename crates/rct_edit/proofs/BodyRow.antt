@@ -6,9 +6,7 @@ use Prim.Native.Nat.{ℕ, ◌≤◌}
 use mathlib.Core.List.{List}
 use lib.ListN.{length}
 use Rattle.length_field.specs.Lengths.{longest}
-use Rattle.wire.specs.Verdict.{◌▷◌}
-use Rattle.wire.specs.declared.verdict.Verdict.{Verdict}
-use Rattle.wire.specs.declared.verdict.Verdict.TheVariants.{Fine, Refused}
+use Rattle.wire.specs.Verdict.{◌▷◌, Fine, Verdict}
 use Rattle.wire.proofs.Verdicts.{go_on, passed-ltb, pass-ltb}
 use Rattle.link.specs.Syntax.{Link, link_body}
 use Rattle.frame.specs.Syntax.{limit}
@@ -18,12 +16,13 @@ use Rattle.rct.proofs.Checked.{count_is, number_passed}
 use Rattle.rct_edit.specs.Edit.{with_link, with_next, length_row, count_row, room_row, room_rows, edit_verdict, replace_verdict, append_verdict}
 use Rattle.rct_edit.proofs.WithRow.{body_row, with_row}
 use Rattle.rct_edit.proofs.Records.{with-short, next-short}
+use Rattle.std.specs.Prelude.{Err, Ok}
 
 -- what follows a row matters only where the row is passed
 then_same : (u w w' : Verdict) → (u ≡ Fine → w ≡ w') → u ▷ w ≡ u ▷ w'
 unfolding ◌▷◌
-then_same Fine w w' e = e refl
-then_same (Refused r) w w' e = refl
+then_same (Ok _) w w' e = e refl
+then_same (Err r) w w' e = refl
 
 with-row : (xs : List ℕ) (row v : Verdict) (l : Link) (s : Section) → (row ≡ Fine → section_length s ≤ limit → length (link_body l) ≤ longest)
     → edit_verdict xs row v s ≡ with_row xs row v l s

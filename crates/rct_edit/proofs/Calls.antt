@@ -8,9 +8,7 @@ use mathlib.Core.List.{List}
 use lib.ListN.{length, length-append, length-drop, length-replicate}
 use Rattle.wire.specs.Lists.{Bytes}
 use Rattle.length_field.specs.Lengths.{Block, BlockFits}
-use Rattle.wire.specs.Verdict.{◌▷◌}
-use Rattle.wire.specs.declared.verdict.Verdict.{Verdict}
-use Rattle.wire.specs.declared.verdict.Verdict.TheVariants.{Fine, Refused}
+use Rattle.wire.specs.Verdict.{◌▷◌, Fine, Verdict}
 use Rattle.wire.specs.declared.verdict.Refusal.{Refusal}
 use Rattle.wire.proofs.Verdicts.{then-fine, fine-then, passed-leb, pass-leb}
 use Rattle.link.specs.Syntax.{Link, LinkFits}
@@ -28,6 +26,7 @@ use Rattle.rct_edit.specs.Making.{check_making, loop_of}
 use Rattle.rct_edit.specs.Calls.{making, appending, replacing}
 use Rattle.rct_edit.proofs.Records.{with-fits, next_fits}
 use Rattle.rct_edit.proofs.Outcomes.{Roomy, room-passed, room-pass}
+use Rattle.std.specs.Prelude.{Err, Ok}
 
 -- ---- room
 
@@ -66,16 +65,16 @@ pub record Stepped (s : Section) (new old : List ℕ) (o : Outcome) : Type 0 whe
 
 -- refused: the total is 0 and the buffer is as it was
 pub record Unchanged (r : Refusal) (old : List ℕ) (o : Outcome) : Type 0 where
-  pub verdict : o.verdict ≡ Refused r
+  pub verdict : o.verdict ≡ Err r
   pub total : o.total ≡ 0
   pub buffer : o.buffer ≡ old
 
 pub done-verdict : (v : Verdict) (n : ℕ) (new old : List ℕ) → (done v n new old).verdict ≡ v
 unfolding done
-done-verdict Fine n new old = refl
-done-verdict (Refused r) n new old = refl
+done-verdict (Ok _) n new old = refl
+done-verdict (Err r) n new old = refl
 
-done_refused : (v : Verdict) (r : Refusal) (n : ℕ) (new old : List ℕ) → (done v n new old).verdict ≡ Refused r → Unchanged r old (done v n new old)
+done_refused : (v : Verdict) (r : Refusal) (n : ℕ) (new old : List ℕ) → (done v n new old).verdict ≡ Err r → Unchanged r old (done v n new old)
 unfolding done
 done_refused v r n new old e = rw (sym (done-verdict v n new old) ∙ e) (record { verdict = refl; total = refl; buffer = refl })
 
@@ -107,15 +106,15 @@ unfolding making make_verdict
 making-verdict xs h beside t d = made-verdict xs (check_making h beside (length t) d) (bare h (loop_of beside t d))
 
 -- a call that answers a refusal leaves every byte
-pub replaced-refused : (xs : List ℕ) (k : ℕ) (v : Verdict) (l : Link) (r : Refusal) → (replaced xs k v l).verdict ≡ Refused r → Unchanged r xs (replaced xs k v l)
+pub replaced-refused : (xs : List ℕ) (k : ℕ) (v : Verdict) (l : Link) (r : Refusal) → (replaced xs k v l).verdict ≡ Err r → Unchanged r xs (replaced xs k v l)
 unfolding replaced
 replaced-refused xs k v l r = done_refused (replace_verdict xs k v l) r _ _ xs
 
-pub appended-refused : (xs : List ℕ) (v : Verdict) (l : Link) (r : Refusal) → (appended xs v l).verdict ≡ Refused r → Unchanged r xs (appended xs v l)
+pub appended-refused : (xs : List ℕ) (v : Verdict) (l : Link) (r : Refusal) → (appended xs v l).verdict ≡ Err r → Unchanged r xs (appended xs v l)
 unfolding appended
 appended-refused xs v l r = done_refused (append_verdict xs v l) r _ _ xs
 
-pub made-refused : (xs : List ℕ) (v : Verdict) (s : Section) (r : Refusal) → (made xs v s).verdict ≡ Refused r → Unchanged r xs (made xs v s)
+pub made-refused : (xs : List ℕ) (v : Verdict) (s : Section) (r : Refusal) → (made xs v s).verdict ≡ Err r → Unchanged r xs (made xs v s)
 unfolding made
 made-refused xs v s r = done_refused (make_verdict (length xs) v s) r _ _ xs
 

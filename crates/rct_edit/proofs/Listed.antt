@@ -7,7 +7,6 @@ use mathlib.Core.Bool.{true}
 use mathlib.Core.List.{List, [], ◌∷◌, ◌++◌}
 use lib.ListN.{length}
 use Rattle.wire.specs.Refusals.{no_such_number, too_wide, past_text, section_too_long, no_room, no_more_links}
-use Rattle.wire.specs.declared.verdict.Verdict.{Verdict}
 use Rattle.wire.proofs.Among.{all_listed, Among, among-row, among_then, among-more}
 use Rattle.field.proofs.Checks.{field-listed}
 use Rattle.link.specs.declared.LinkInfo.{LinkInfo}
@@ -21,6 +20,7 @@ use Rattle.rct_edit.specs.Edit.{count_row, room_rows, edit_verdict}
 use Rattle.rct_edit.specs.Making.{check_loop, check_making}
 use Rattle.rct_edit.specs.Calls.{making, appending, replacing}
 use Rattle.rct_edit.proofs.Calls.{replacing-verdict, appending-verdict, making-verdict}
+use Rattle.wire.specs.Verdict.{Verdict}
 
 -- ---- the room
 

@@ -9,7 +9,6 @@ use lib.Seq.{take_at, drop_at, take-take, set_split, split_at, take-set-lt, drop
 use Rattle.wire.proofs.Lists.{drop-take}
 use Rattle.wire.specs.Lists.{Bytes, part}
 use Rattle.length_field.specs.Lengths.{longest, length_bytes, beside_of, beside_at, block_bytes, block_end}
-use Rattle.wire.specs.declared.verdict.Verdict.TheVariants.{Fine}
 use Rattle.link.specs.Syntax.{Link, entry_of}
 use Rattle.section_header.specs.Syntax.{header_bytes, first_bits}
 use Rattle.frame.specs.Reading.{declared, payload_end}
@@ -21,6 +20,7 @@ use Rattle.rct.proofs.Links.{entry_length, entry_read_lem, EntryRead, length-lin
 use Rattle.rct.proofs.Accepted.{length-payload, Accepted, accepted, length_is, rebuild}
 use Rattle.rct_edit.specs.Edit.{with_links, with_link, with_next}
 use Rattle.rct_edit.specs.Rehead.{rehead}
+use Rattle.wire.specs.Verdict.{Fine}
 
 -- ---- the head's numbers anew
 

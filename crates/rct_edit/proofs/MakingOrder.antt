@@ -10,9 +10,7 @@ use native.Mathlib.Omega.{arith}
 use lib.ListN.{length}
 use borrow.Author.Tests.{not-true}
 use Rattle.wire.specs.Refusals.{too_wide, past_text, section_too_long, no_room, no_syntax_indicator}
-use Rattle.wire.specs.Verdict.{bad, ◌▷◌}
-use Rattle.wire.specs.declared.verdict.Verdict.{Verdict}
-use Rattle.wire.specs.declared.verdict.Verdict.TheVariants.{Fine}
+use Rattle.wire.specs.Verdict.{bad, ◌▷◌, Fine, Verdict}
 use Rattle.wire.proofs.Among.{listed, Among, Never, among-never, row-never, never-then, never-past, never-behind}
 use Rattle.wire.proofs.Verdicts.{then-fine, fine-then, then-assoc, go_on, stop, row-says, row-broken, broken-ltb, break-ltb}
 use Rattle.field.specs.Fields.{section_reserved, version_number, version_reserved, loop_length, loop_length_reserved, check_field}

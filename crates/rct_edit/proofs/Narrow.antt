@@ -5,7 +5,6 @@ use mathlib.Core.Path.{◌≡◌}
 use mathlib.Core.List.{List}
 use lib.ListN.{length}
 use Rattle.field.specs.Fields.{loop_length, loop_length_reserved}
-use Rattle.wire.specs.declared.verdict.Verdict.TheVariants.{Fine}
 use Rattle.wire.proofs.Verdicts.{then-fine}
 use Rattle.link.specs.declared.Range.{Range}
 use Rattle.link_draft.proofs.Rows.{range-passed}
@@ -14,6 +13,7 @@ use Rattle.rct.specs.declared.RctHeader.{RctHeader}
 use Rattle.rct_edit.specs.Making.{check_loop, check_making, LoopNarrow}
 use Rattle.section_header.specs.Checks.{check_header}
 use Rattle.section_header.proofs.HeaderLaws.{Written, header-passed}
+use Rattle.wire.specs.Verdict.{Fine}
 
 module _ (h : RctHeader) (beside : ℕ) (t : List ℕ) (d : Range) (e : check_making h beside (length t) d ≡ Fine) where
   pub header-written : Written h.section

@@ -12,8 +12,7 @@ use native.Mathlib.Omega.{arith}
 use lib.ListN.{length}
 use Rattle.wire.specs.Lists.{Bytes}
 use Rattle.wire.specs.Refusals.{no_such_number, section_too_long, no_room, no_more_links}
-use Rattle.wire.specs.Verdict.{bad}
-use Rattle.wire.specs.declared.verdict.Verdict.TheVariants.{Fine}
+use Rattle.wire.specs.Verdict.{bad, Fine}
 use Rattle.wire.proofs.Among.{listed}
 use Rattle.wire.proofs.Lists.{bytes-at}
 use Rattle.wire.proofs.Verdicts.{row-says, passed-leb, pass-leb, broken-leb, break-leb}

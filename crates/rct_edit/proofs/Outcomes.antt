@@ -4,27 +4,25 @@ use Prim.Native.Nat.{ℕ, ◌+◌, ◌≤◌}
 use mathlib.Core.Path.{◌≡◌, refl, ap, ◌∙◌}
 use mathlib.Core.List.{List}
 use Rattle.wire.specs.declared.verdict.Refusal.{Refusal}
-use Rattle.wire.specs.declared.verdict.Verdict.{Verdict}
-use Rattle.wire.specs.declared.verdict.Verdict.TheVariants.{Fine, Refused}
 use Rattle.wire.proofs.Verdicts.{then-fine, fine-then, passed-ltb, pass-ltb}
 use Rattle.frame.specs.Syntax.{limit, uncounted}
 use Rattle.rct_edit.specs.Edit.{length_row, room_rows, Outcome, done}
 use Rattle.rct_edit.specs.Answers.{answer}
-use Rattle.edit_answers.specs.Answers.{refused_with, accepted_with}
-use Rattle.edit_answers.specs.declared.Edited.{Edited}
+use Rattle.std.specs.Prelude.{Err, Ok, Result}
+use Rattle.wire.specs.Verdict.{reached, Fine, Verdict}
 
 -- the answer e and the buffer ys are those of o
-abbrev pub Came : Outcome → Edited → List ℕ → Type 0
+abbrev pub Came : Outcome → Result ℕ Refusal → List ℕ → Type 0
 Came o e ys = (e ≡ answer o) × (ys ≡ o.buffer)
 
 module _ (v : Verdict) (n : ℕ) (new old : List ℕ) where
-  pub done-stops : (r : Refusal) (e : Edited) → v ≡ Refused r → e ≡ refused_with (Refused r) → Came (done v n new old) e old
-  unfolding done
+  pub done-stops : (r : Refusal) (e : Result ℕ Refusal) → v ≡ Err r → e ≡ Err r → Came (done v n new old) e old
+  unfolding done reached
   done-stops r e w a = rw w (a, refl)
 
-  pub done-goes : (m : ℕ) (ys : List ℕ) (e : Edited) → v ≡ Fine → m ≡ n → ys ≡ new → e ≡ accepted_with m → Came (done v n new old) e ys
-  unfolding done
-  done-goes m ys e w s b a = rw w (a ∙ ap accepted_with s, b)
+  pub done-goes : (m : ℕ) (ys : List ℕ) (e : Result ℕ Refusal) → v ≡ Fine → m ≡ n → ys ≡ new → e ≡ Ok m → Came (done v n new old) e ys
+  unfolding done reached
+  done-goes m ys e w s b a = rw w (a ∙ ap Ok s, b)
 
 -- ---- the room
 

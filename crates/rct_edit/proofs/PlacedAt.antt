@@ -7,7 +7,6 @@ use native.Mathlib.Omega.{arith}
 use lib.ListN.{length}
 use lib.Seq.{take-set-le, take-append-le}
 use Rattle.wire.specs.Lists.{Bytes}
-use Rattle.wire.specs.declared.verdict.Verdict.TheVariants.{Fine}
 use Rattle.link.specs.Syntax.{Link, LinkFits}
 use Rattle.link.specs.Records.{link_of}
 use Rattle.link.specs.declared.LinkInfo.{LinkInfo}
@@ -22,11 +21,12 @@ use Rattle.rct.proofs.Accepted.{place_is}
 use Rattle.rct.proofs.Checked.{holds-known, holds-total, checked-holds, count_is}
 use Rattle.rct_edit.specs.Edit.{with_link, with_next, written, Outcome, replaced, appended}
 use Rattle.rct_edit.specs.Calls.{appending, replacing, placed, appending_placed, replacing_placed}
-use Rattle.edit_answers.specs.declared.Spliced.TheVariants as spliced
 use Rattle.rct_edit.proofs.Calls.{Stepped, replaced-verdict, appended-verdict, replace-checked, append-checked, replace-can, replaced-stepped, appended-stepped}
 use Rattle.rct_edit.proofs.Placed.{placed-done}
 use Rattle.rct_edit.proofs.Records.{length-with, length-next}
 use Rattle.rct_edit.proofs.Written.{written-bytes}
+use Rattle.edit_answers.specs.Answers.{spliced_at}
+use Rattle.wire.specs.Verdict.{Fine}
 
 -- an edit of the section in xs at number k
 pub record Stands (xs : List ℕ) (k : ℕ) (o : Outcome) (total before count at : ℕ) : Type 0 where
@@ -46,9 +46,9 @@ unfolding with_next
 next-stays s l = ap (λ r. head_length + length (links_bytes r)) (take-append-le (length s.links) s.links (l ∷ []) (omega arith))
 
 module _ (xs : List ℕ) (b : Bytes xs) (c : checked xs ≡ Fine) (k : ℕ) (s' : Section) (o : Outcome) (st : Stepped s' (written xs s') xs o) (below : k < length s'.links) (stays : entry_place s' k ≡ entry_place (section_at xs) k) where
-  stands : (total before count at : ℕ) → placed o (section_at xs) k ≡ spliced.Done total before count at → Stands xs k o total before count at
+  stands : (total before count at : ℕ) → placed o (section_at xs) k ≡ spliced_at total before count at → Stands xs k o total before count at
   stands total before count at e =
-      let d = placed-done _ _ _ _ _ _ _ _ e in
+      let d = placed-done o _ _ _ _ _ _ _ e in
       let known = holds-known s' o.buffer st.holds in
       let bytes : Bytes o.buffer = rw st.buffer (written-bytes xs s' b st.holds.fits) in
       let same = known.same in
@@ -65,22 +65,22 @@ module _ (xs t : List ℕ) (a : LinkInfo) (b : Bytes xs) (bt : Bytes t) (c : Car
   good : check_link t a ≡ Fine → LinkFits (link_of t a)
   good = check-fits t a bt c
 
-  pub replaced-stands : (k : ℕ) → replacing_placed xs k t a ≡ spliced.Done total before count at → Stands xs k (replacing xs k t a) total before count at
+  pub replaced-stands : (k : ℕ) → replacing_placed xs k t a ≡ spliced_at total before count at → Stands xs k (replacing xs k t a) total before count at
   unfolding replacing_placed replacing
   replaced-stands k e =
       let v = check_link t a in
-      let f = (placed-done _ _ _ _ _ _ _ _ e).fine in
+      let f = (placed-done (replaced xs k v (link_of t a)) _ _ _ _ _ _ _ e).fine in
       let passed = sym (replaced-verdict xs k v (link_of t a)) ∙ f in
       let checks = replace-checked xs k v (link_of t a) passed in
       let below = (replace-can v (link_of t a) good (section_at xs) xs (checked-holds xs b checks) k passed).below in
       stands xs b checks k (with_link (section_at xs) k (link_of t a)) (replaced xs k v (link_of t a)) (replaced-stepped xs b v (link_of t a) good k f)
       (omega (arith, below, length-with (section_at xs) k (link_of t a))) (with-stays (section_at xs) k (link_of t a)) total before count at e
 
-  pub appended-stands : appending_placed xs t a ≡ spliced.Done total before count at → Stands xs (count_at xs) (appending xs t a) total before count at
+  pub appended-stands : appending_placed xs t a ≡ spliced_at total before count at → Stands xs (count_at xs) (appending xs t a) total before count at
   unfolding appending_placed appending
   appended-stands e =
       let v = check_link t a in
-      let f = (placed-done _ _ _ _ _ _ _ _ e).fine in
+      let f = (placed-done (appended xs v (link_of t a)) _ _ _ _ _ _ _ e).fine in
       let checks = append-checked xs v (link_of t a) (sym (appended-verdict xs v (link_of t a)) ∙ f) in
       rw (← count_is xs)
       (stands xs b checks (length (section_at xs).links) (with_next (section_at xs) (link_of t a)) (appended xs v (link_of t a)) (appended-stepped xs b v (link_of t a) good f)

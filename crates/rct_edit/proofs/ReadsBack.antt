@@ -9,8 +9,6 @@ use lib.ListN.{length, drop, get_or, replicate, length-append, length-replicate}
 use lib.Seq.{drop_at}
 use Rattle.wire.specs.Lists.{Bytes}
 use Rattle.length_field.specs.Lengths.{Block}
-use Rattle.wire.specs.declared.verdict.Verdict.{Verdict}
-use Rattle.wire.specs.declared.verdict.Verdict.TheVariants.{Fine}
 use Rattle.link.specs.Syntax.{Link, LinkFits}
 use Rattle.frame.specs.Reading.{total_of}
 use Rattle.rct.specs.declared.RctHeader.{RctHeader}
@@ -20,6 +18,7 @@ use Rattle.rct.proofs.Checked.{length-sealed, Known, holds-known, holds-total, c
 use Rattle.rct_edit.specs.Edit.{filler, bare, with_link, with_next, written, fresh, Outcome, replaced, appended, made}
 use Rattle.rct_edit.proofs.Records.{with-named, with-others, length-with, next_last, next-others, length-next}
 use Rattle.rct_edit.proofs.Calls.{Stepped, Parts, replaced-stepped, appended-stepped, made-stepped}
+use Rattle.wire.specs.Verdict.{Fine, Verdict}
 
 -- the buffer passes the checked reading, which gives s; the answer is its total
 pub record ReadsBack (s : Section) (o : Outcome) : Type 0 where

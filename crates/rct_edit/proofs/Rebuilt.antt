@@ -9,7 +9,6 @@ use lib.ListN.{length, take, drop, length-append, length-drop}
 use lib.Seq.{drop_at, drop-drop}
 use Rattle.wire.specs.Lists.{Bytes}
 use Rattle.wire.specs.Numbers.{bytes32}
-use Rattle.wire.specs.declared.verdict.Verdict.TheVariants.{Fine}
 use Rattle.crc.specs.Crc.{crc_of}
 use Rattle.link.specs.Syntax.{Link}
 use Rattle.section_header.specs.Reading.{header_at}
@@ -22,6 +21,7 @@ use Rattle.rct.proofs.Accepted.{length-payload, accepted, length_is, rebuild, ac
 use Rattle.rct.proofs.Checked.{within-iff, length-sealed, Holds, sealed-holds, holds-total}
 use Rattle.rct_edit.specs.Edit.{with_links, bare, with_next, written, fresh, made, appended}
 use Rattle.rct_edit.proofs.Calls.{Stepped, CanAppend, append-stepped, make-stepped}
+use Rattle.wire.specs.Verdict.{Fine}
 
 -- links appended one after the other, none of which is refused for what it is: the buffer at the end
 abbrev pub appends : List ℕ → List Link → List ℕ

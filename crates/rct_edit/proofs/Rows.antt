@@ -8,9 +8,7 @@ use mathlib.Core.Bool.{true, false}
 use mathlib.Core.List.{List, [], ◌∷◌, ◌++◌}
 use lib.ListN.{length}
 use Rattle.wire.specs.Refusals.{section_too_long, no_room}
-use Rattle.wire.specs.Verdict.{bad, ◌▷◌}
-use Rattle.wire.specs.declared.verdict.Verdict.{Verdict}
-use Rattle.wire.specs.declared.verdict.Verdict.TheVariants.{Fine}
+use Rattle.wire.specs.Verdict.{bad, ◌▷◌, Fine, Verdict}
 use Rattle.wire.proofs.Among.{listed, listed_more, Among, among-row, Never, among-never, never-then, never-past, never-behind, either-row, all_apart, listed-apart}
 use Rattle.wire.proofs.Verdicts.{then-fine, fine-then, go_on, stop, then-assoc, row-says, passed-ltb, pass-ltb, broken-ltb, break-ltb}
 use Rattle.link_draft.proofs.Listed.{link_checks}

@@ -6,8 +6,6 @@ use Prim.Native.Nat.{ℕ, ◌≤◌}
 use mathlib.Core.List.{List}
 use lib.ListN.{length, take}
 use Rattle.wire.specs.Lists.{Bytes}
-use Rattle.wire.specs.declared.verdict.Verdict.{Verdict}
-use Rattle.wire.specs.declared.verdict.Verdict.TheVariants.{Fine}
 use Rattle.link.specs.Syntax.{Link, LinkFits}
 use Rattle.frame.specs.Syntax.{limit}
 use Rattle.rct.specs.Syntax.{Section, section_length, full_length, sealed}
@@ -16,6 +14,7 @@ use Rattle.rct.proofs.Checked.{Holds, checked-holds, holds-bytes}
 use Rattle.rct_edit.specs.Edit.{with_link, written, replace_verdict, Outcome, replaced}
 use Rattle.rct_edit.proofs.Records.{with_two, length-with}
 use Rattle.rct_edit.proofs.Calls.{Room, CanReplace, replace-can, Stepped, stepped, replaced-verdict, replace-checked}
+use Rattle.wire.specs.Verdict.{Fine, Verdict}
 
 -- accepted, with the total of s, and s is in front of the buffer, sealed
 pub record Ends (s : Section) (o : Outcome) : Type 0 where

@@ -3,8 +3,7 @@
 -- Assumes nothing.
 use Rattle.std.specs.Prelude.{ℕ, List, ltb, length}
 use Rattle.length_field.specs.Lengths.{longest}
-use Rattle.wire.specs.Verdict.{refuse, ◌▷◌}
-use Rattle.wire.specs.declared.verdict.Verdict.{Verdict}
+use Rattle.wire.specs.Verdict.{refuse, ◌▷◌, Verdict}
 use Rattle.link.specs.Syntax.{Link, link_body}
 use Rattle.rct.specs.Syntax.{Section, section_length}
 use Rattle.rct.specs.Reading.{checked}

@@ -1,11 +1,9 @@
 -- Making a section, appending a link and replacing a link in a lent buffer: the answer, and the buffer afterwards. All of it is said by the records; v is the verdict on what is handed in, which comes before the verdict on the result.
 -- Assumes nothing.
-use Rattle.std.specs.Prelude.{ℕ, ◌+◌, ◌-◌, max, List, [], ◌∷◌, ◌++◌, ltb, leb, length, set, drop, replicate}
+use Rattle.std.specs.Prelude.{ℕ, ◌+◌, ◌-◌, max, List, [], ◌∷◌, ◌++◌, ltb, leb, length, set, drop, replicate, Err, Ok}
 use Rattle.length_field.specs.Lengths.{Block}
 use Rattle.wire.specs.Refusals.{section_too_long, no_room, no_more_links}
-use Rattle.wire.specs.Verdict.{refuse, ◌▷◌}
-use Rattle.wire.specs.declared.verdict.Verdict.{Verdict}
-use Rattle.wire.specs.declared.verdict.Verdict.TheVariants.{Fine, Refused}
+use Rattle.wire.specs.Verdict.{refuse, ◌▷◌, Fine, Verdict}
 use Rattle.link.specs.Syntax.{Link}
 use Rattle.frame.specs.Syntax.{limit, uncounted}
 use Rattle.frame.specs.Reading.{total_of}
@@ -85,8 +83,8 @@ pub record Outcome : Type 0 where
 
 -- fine: the total and the new buffer; refused: total 0 and the old one
 unfoldable pub done : Verdict → ℕ → List ℕ → List ℕ → Outcome
-done Fine total new old = record { verdict = Fine; total = total; buffer = new }
-done (Refused r) total new old = record { verdict = Refused r; total = 0; buffer = old }
+done (Ok _) total new old = record { verdict = Fine; total = total; buffer = new }
+done (Err r) total new old = record { verdict = Err r; total = 0; buffer = old }
 
 unfoldable pub replaced : List ℕ → ℕ → Verdict → Link → Outcome
 replaced xs k v l = done (replace_verdict xs k v l) (full_length (with_link (section_at xs) k l)) (written xs (with_link (section_at xs) k l)) xs

@@ -4,8 +4,7 @@ use Rattle.std.specs.Prelude.{ℕ, ◌+◌, ◌≤◌, ◌<◌, List, length}
 use Rattle.length_field.specs.Lengths.{Block}
 use Rattle.field.specs.Fields.{loop_length, loop_length_reserved, check_field}
 use Rattle.section_header.specs.Checks.{check_header, narrowed}
-use Rattle.wire.specs.Verdict.{◌▷◌}
-use Rattle.wire.specs.declared.verdict.Verdict.{Verdict}
+use Rattle.wire.specs.Verdict.{◌▷◌, Verdict}
 use Rattle.link.specs.Records.{range_of}
 use Rattle.link.specs.declared.Range.{Range}
 use Rattle.link_draft.specs.Checks.{check_range}

@@ -3,14 +3,14 @@ ghost use Rattle.std.specs.Prelude.{◌≡◌};
 ghost use Rattle.rct_edit.specs.Edit.{room_rows};
 
 use frame::{Demands, Table};
-use wire::verdict::{Refusal, Verdict};
+use wire::verdict::Refusal;
 
 // 28 and 29 of a section_length, in a buffer of `room` bytes.
-pub fn check_room(room: usize, section_length: usize) -> Verdict
+pub fn check_room(room: usize, section_length: usize) -> Result<(), Refusal>
     ensures { result ≡ room_rows room section_length }
 {
     if Demands::LIMIT < section_length {
-        return Verdict::Refused(Refusal {
+        return Err(Refusal {
             number: Refusal::SECTION_TOO_LONG,
             first: section_length,
             second: Demands::LIMIT,
@@ -18,11 +18,11 @@ pub fn check_room(room: usize, section_length: usize) -> Verdict
     }
     let total = Table::UNCOUNTED + section_length;
     if room < total {
-        return Verdict::Refused(Refusal {
+        return Err(Refusal {
             number: Refusal::NO_ROOM,
             first: total,
             second: room,
         });
     }
-    Verdict::Fine
+    Ok(())
 }

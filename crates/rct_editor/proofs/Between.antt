@@ -9,10 +9,8 @@ use lib.Seq.{sets}
 use borrow.Author.Tests.{le-leb, lt-leb}
 use Rattle.wire.specs.Lists.{Bytes, part}
 use Rattle.wire.specs.Numbers.{bytes32}
-use Rattle.wire.specs.Verdict.{◌▷◌}
+use Rattle.wire.specs.Verdict.{◌▷◌, Fine, Verdict}
 use Rattle.wire.specs.declared.verdict.Refusal.{Refusal}
-use Rattle.wire.specs.declared.verdict.Verdict.{Verdict}
-use Rattle.wire.specs.declared.verdict.Verdict.TheVariants.{Fine, Refused}
 use Rattle.wire.proofs.Verdicts.{go_on, stop, refused-then, refused-row, fine-row}
 use Rattle.wire.proofs.Words.{length-bytes32}
 use Rattle.wire.specs.Refusals.{no_such_number, no_more_links}
@@ -38,15 +36,14 @@ use Rattle.frame.specs.Ending.{sealed_at}
 use Rattle.rct_edit.proofs.Assembled.{Steps, new-end, assembled}
 use Rattle.rct_edit.proofs.Locality.{Splice, append-splice, replace-splice}
 use Rattle.rct_edit.proofs.Records.{length-with, length-next}
-use Rattle.edit_answers.specs.declared.Edited.{Edited}
-use Rattle.edit_answers.specs.declared.Spliced.{Spliced}
-use Rattle.edit_answers.specs.declared.Spliced.TheVariants as spliced
 use Rattle.rct_edit.proofs.Outcomes.{Came, done-stops, room-passed}
 use Rattle.rct_edit.proofs.Placed.{refused-placed, came-placed}
 use Rattle.rct_stores.specs.Stores.{filled_up}
 use Rattle.rct_editor.specs.Splicing.{entry_bytes, Spot, length_between, spliced, finished, between_verdict, between_bytes, between}
 use Rattle.rct_edit.specs.Calls.{replacing, appending, appending_placed, replacing_placed}
 use Rattle.rct_editor.proofs.Sizes.{entry-size}
+use Rattle.edit_answers.specs.declared.Spliced.{Spliced}
+use Rattle.std.specs.Prelude.{Err, Ok, Result}
 
 module _ (xs : List ℕ) (o : Opened rct checked_demands xs) (t : List ℕ) (k : LinkInfo) (s : Section) (p q count : ℕ) (sp : Splice xs s (link_of t k) p q) (n : length s.links ≡ count) where
   -- of a record that passed its checks
@@ -109,10 +106,10 @@ module _ (xs : List ℕ) (o : Opened rct checked_demands xs) (t : List ℕ) (k :
 
   room-same : check_link t k ≡ Fine → (w : Verdict) → room_rows (length xs) (section_length s) ≡ w → by_numbers w ≡ by_records w
   unfolding done
-  room-same c Fine e = rw (length-same c, bytes_same c (room-passed (length xs) (section_length s) e).enough)
-  room-same c (Refused r) e = refl
+  room-same c (Ok _) e = rw (length-same c, bytes_same c (room-passed (length xs) (section_length s) e).enough)
+  room-same c (Err r) e = refl
 
-  same-refused : (r : Refusal) → by_numbers (Refused r) ≡ by_records (Refused r)
+  same-refused : (r : Refusal) → by_numbers (Err r) ≡ by_records (Err r)
   unfolding done
   same-refused r = refl
 
@@ -123,11 +120,11 @@ module _ (xs : List ℕ) (o : Opened rct checked_demands xs) (t : List ℕ) (k :
       by : (v : Verdict) → check_link t k ≡ v
           → by_numbers (check_link t k ▷ room_rows (length xs) (length_between xs p q (link_length k)))
           ≡ by_records (check_link t k ▷ room_rows (length xs) (section_length s))
-      by Fine c =
+      by (Ok _) c =
           ap by_numbers (go_on (check_link t k) _ c ∙ ap (room_rows (length xs)) (length-same c))
           ∙ room-same c (room_rows (length xs) (section_length s)) refl
           ∙ ap by_records (sym (go_on (check_link t k) _ c))
-      by (Refused r) c = ap by_numbers (refused-then (check_link t k) _ r c) ∙ same-refused r ∙ ap by_records (sym (refused-then (check_link t k) _ r c))
+      by (Err r) c = ap by_numbers (refused-then (check_link t k) _ r c) ∙ same-refused r ∙ ap by_records (sym (refused-then (check_link t k) _ r c))
 
 -- ---- what the checked reading found
 
@@ -144,18 +141,18 @@ splice-spot xs s l p q o sp = record { large = o.large; within = o.within; low =
 
 module _ (xs : List ℕ) (t : List ℕ) (k : LinkInfo) where
   -- the answer p and the buffer ys are those of the call
-  abbrev Appends : Spliced → List ℕ → Type 0
+  abbrev Appends : Result Spliced Refusal → List ℕ → Type 0
   Appends p ys = (p ≡ appending_placed xs t k) × (ys ≡ (appending xs t k).buffer)
 
-  append-stops : (r : Refusal) → append_verdict xs (check_link t k) (link_of t k) ≡ Refused r → Appends (spliced.Refused r) xs
+  append-stops : (r : Refusal) → append_verdict xs (check_link t k) (link_of t k) ≡ Err r → Appends (Err r) xs
   unfolding appending_placed appending appended
   append-stops r w = refused-placed _ xs _ _ _ r (done-stops _ _ _ xs r _ w refl)
 
-  pub append-unread : (r : Refusal) → checked xs ≡ Refused r → Appends (spliced.Refused r) xs
+  pub append-unread : (r : Refusal) → checked xs ≡ Err r → Appends (Err r) xs
   append-unread r c = append-stops r (unfold append_verdict in refused-then (checked xs) _ r c)
 
   module _ (c : checked xs ≡ Fine) where
-    pub append-full : (n : ℕ) → most_links ≤ count_at xs → n ≡ most_links → Appends (spliced.Refused (record { number = no_more_links; first = n; second = 0 })) xs
+    pub append-full : (n : ℕ) → most_links ≤ count_at xs → n ≡ most_links → Appends (Err (record { number = no_more_links; first = n; second = 0 })) xs
     append-full n h e =
         rw e
         (append-stops _ (unfold append_verdict in go_on (checked xs) _ c ∙ stop (count_row xs) _ _ _ _ (refused-row _ _ _ _ (le-leb most_links (count_at xs) h))))
@@ -177,7 +174,7 @@ module _ (xs : List ℕ) (t : List ℕ) (k : LinkInfo) where
         (unfold append_verdict in sym (go_on (checked xs) _ c ∙ go_on (count_row xs) _ (fine-row _ _ _ _ (lt-leb most_links (count_at xs) h))))
 
     -- with the numbers as the walk found them
-    pub append-goes : (n total : ℕ) (e : Edited) (p : Spliced) (ys : List ℕ) → count_at xs ≡ n → total_of xs ≡ total → n < most_links
+    pub append-goes : (n total : ℕ) (e : Result ℕ Refusal) (p : Result Spliced Refusal) (ys : List ℕ) → count_at xs ≡ n → total_of xs ≡ total → n < most_links
         → Came (between xs q q (n + 1) t k) e ys → p ≡ spliced_by e total n q → Appends p ys
     unfolding appending_placed
     append-goes n total e p ys en et h came is =
@@ -189,18 +186,18 @@ module _ (xs : List ℕ) (t : List ℕ) (k : LinkInfo) where
 -- ---- replacing
 
 module _ (xs : List ℕ) (number : ℕ) (t : List ℕ) (k : LinkInfo) where
-  abbrev Replaces : Spliced → List ℕ → Type 0
+  abbrev Replaces : Result Spliced Refusal → List ℕ → Type 0
   Replaces p ys = (p ≡ replacing_placed xs number t k) × (ys ≡ (replacing xs number t k).buffer)
 
-  replace-stops : (r : Refusal) → replace_verdict xs number (check_link t k) (link_of t k) ≡ Refused r → Replaces (spliced.Refused r) xs
+  replace-stops : (r : Refusal) → replace_verdict xs number (check_link t k) (link_of t k) ≡ Err r → Replaces (Err r) xs
   unfolding replacing_placed replacing replaced
   replace-stops r w = refused-placed _ xs _ _ _ r (done-stops _ _ _ xs r _ w refl)
 
-  pub replace-unread : (r : Refusal) → checked xs ≡ Refused r → Replaces (spliced.Refused r) xs
+  pub replace-unread : (r : Refusal) → checked xs ≡ Err r → Replaces (Err r) xs
   replace-unread r c = replace-stops r (unfold replace_verdict in refused-then (checked xs) _ r c)
 
   module _ (c : checked xs ≡ Fine) where
-    pub replace-none : (n : ℕ) (p : Spliced) → count_at xs ≡ n → n ≤ number → p ≡ spliced.Refused (record { number = no_such_number; first = number; second = n }) → Replaces p xs
+    pub replace-none : (n : ℕ) (p : Result Spliced Refusal) → count_at xs ≡ n → n ≤ number → p ≡ Err (record { number = no_such_number; first = number; second = n }) → Replaces p xs
     replace-none n p e h is =
         rw (is, ← e)
         (replace-stops _
@@ -222,7 +219,7 @@ module _ (xs : List ℕ) (number : ℕ) (t : List ℕ) (k : LinkInfo) where
         ∙ ap (λ v. done v (full_length (with_link (section_at xs) number (link_of t k))) (written xs (with_link (section_at xs) number (link_of t k))) xs)
         (unfold replace_verdict in sym (go_on (checked xs) _ c ∙ go_on (number_row xs number) _ (number-pass xs number h)))
 
-    pub replace-goes : (n total : ℕ) (e : Edited) (s : Spliced) (ys : List ℕ) → count_at xs ≡ n → total_of xs ≡ total
+    pub replace-goes : (n total : ℕ) (e : Result ℕ Refusal) (s : Result Spliced Refusal) (ys : List ℕ) → count_at xs ≡ n → total_of xs ≡ total
         → Came (between xs p q n t k) e ys → s ≡ spliced_by e total n p → Replaces s ys
     unfolding replacing_placed
     replace-goes n total e s ys en et came is =

@@ -7,7 +7,6 @@ use native.Mathlib.Omega.{arith}
 use lib.ListN.{length}
 use lib.Seq.{sets}
 use Rattle.wire.specs.Lists.{part}
-use Rattle.wire.specs.declared.verdict.Verdict.TheVariants.{Fine, Refused}
 use Rattle.wire.specs.declared.verdict.Refusal.{Refusal}
 use Rattle.length_field.proofs.Blocks.{block-length}
 use Rattle.link.specs.Syntax.{entry_of, link_body}
@@ -24,6 +23,8 @@ use Rattle.link_draft.proofs.Exact.{passed}
 use Rattle.byte_moves.specs.Moves.{moved_within}
 use Rattle.byte_moves.proofs.Exact.{moves}
 use Rattle.rct_editor.specs.Splicing.{entry_bytes, Spot, length_between, Fitting}
+use Rattle.std.specs.Prelude.{Err}
+use Rattle.wire.specs.Verdict.{Fine}
 
 -- as many bytes as the record says, behind the two of its length
 pub body-size : (t : List ℕ) (k : LinkInfo) → check_link t k ≡ Fine → length (link_body (link_of t k)) ≡ link_length k
@@ -34,7 +35,7 @@ entry-size t k e = omega (arith, block-length (entry_of (link_of t k)), body-siz
 
 -- ---- what the check of the record answered
 
-pub own-refused : (t : List ℕ) (k : LinkInfo) (own : LinkChecked) (r : Refusal) → own ≡ link_checked t k → own.verdict ≡ Refused r → check_link t k ≡ Refused r
+pub own-refused : (t : List ℕ) (k : LinkInfo) (own : LinkChecked) (r : Refusal) → own ≡ link_checked t k → own.verdict ≡ Err r → check_link t k ≡ Err r
 unfolding link_checked
 own-refused t k own r e v = sym (ap (λ (o : LinkChecked). o.verdict) e) ∙ v
 

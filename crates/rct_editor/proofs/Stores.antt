@@ -11,7 +11,6 @@ use Rattle.frame.specs.Reading.{payload_end, total_of}
 use Rattle.wire.specs.Lists.{part}
 use Rattle.length_field.specs.Lengths.{longest, widest_beside, length_bytes, block_bytes}
 use Rattle.byte_stores.specs.Stores.{put_at, Wrote}
-use Rattle.wire.specs.declared.verdict.Verdict.TheVariants.{Fine}
 use Rattle.byte_stores.proofs.Writing.{then, wrote-length}
 use Rattle.length_field.proofs.Written.{field_put}
 use Rattle.link.specs.Syntax.{link_body}
@@ -30,6 +29,7 @@ use Rattle.frame.proofs.Endings.{sealed-room}
 use Rattle.rct_stores.specs.Stores.{filled_up}
 use Rattle.rct_editor.specs.Splicing.{entry_bytes, length_between, spliced, finished, between_bytes}
 use Rattle.rct_editor.proofs.Sizes.{body-size, entry-size}
+use Rattle.wire.specs.Verdict.{Fine}
 
 -- ---- a link's entry
 

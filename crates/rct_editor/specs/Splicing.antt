@@ -4,9 +4,7 @@ use Rattle.std.specs.Prelude.{ℕ, ◌+◌, ◌-◌, ◌≤◌, ◌≡◌, List,
 use Rattle.std.proofs.lemmas.List.Edits.{sets}
 use Rattle.wire.specs.Lists.{part}
 use Rattle.length_field.specs.Lengths.{block_bytes}
-use Rattle.wire.specs.Verdict.{◌▷◌}
-use Rattle.wire.specs.declared.verdict.Verdict.{Verdict}
-use Rattle.wire.specs.declared.verdict.Verdict.TheVariants.{Fine}
+use Rattle.wire.specs.Verdict.{◌▷◌, Fine, Verdict}
 use Rattle.link.specs.Syntax.{entry_of}
 use Rattle.link.specs.Records.{link_of}
 use Rattle.link.specs.declared.LinkInfo.{LinkInfo}

@@ -10,12 +10,10 @@ use Rattle.wire.specs.Lists.{Bytes, part}
 use Rattle.length_field.specs.Lengths.{length_at}
 use Rattle.wire.proofs.Lists.{length_part}
 use Rattle.wire.specs.Refusals.{descriptor_cut}
-use Rattle.wire.specs.Verdict.{bad}
+use Rattle.wire.specs.Verdict.{bad, Fine, Verdict}
 use Rattle.wire.specs.declared.verdict.Refusal.{Refusal}
-use Rattle.wire.specs.declared.verdict.Verdict.{Verdict}
-use Rattle.wire.specs.declared.verdict.Verdict.TheVariants.{Fine, Refused}
 use Rattle.wire.proofs.Among.{Among, among_then, among-more, among-never, never-past}
-use Rattle.wire.proofs.Verdicts.{then-fine, fine-then, go_on}
+use Rattle.wire.proofs.Verdicts.{then-fine, fine-then, go_on, ok-same}
 use Rattle.number_set.specs.Members.{size}
 use Rattle.descriptors.specs.Syntax.{loop_bytes}
 use Rattle.descriptors.specs.Reading.{descriptors_of, cut_verdict}
@@ -40,18 +38,18 @@ use Rattle.rct_edit.proofs.Calls.{Stepped, edit-passed, replaced-verdict, append
 use Rattle.rct_index.specs.Index.{link_marks, index_of, place_in}
 use Rattle.rct_index.specs.Building.{descriptor_place, loop_rows, build_verdict, built, building}
 use Rattle.rct_index.specs.Editing.{turns, brought_up, appending_indexed, replacing_indexed}
-use Rattle.rct_index.specs.declared.IndexBuilt.{IndexBuilt}
 use Rattle.rct_index.specs.declared.RctIndex.{RctIndex}
 use Rattle.rct_index.proofs.BroughtUp.{index-with, index-next}
 use Rattle.rct_index.proofs.Anew.{SetsFit, Anew, anew}
 use Rattle.rct_index.proofs.Members.{by_uri, by_locator, by_icon, Told, uri-tells, locator-tells, icon-tells}
 use Rattle.rct_index.proofs.Places.{index-place, index-past}
+use Rattle.std.specs.Prelude.{Err, Ok}
 
 -- ---- when it can be built
 
--- fine, with the index i
+-- not refused, and i is the index
 abbrev pub Builds : List ℕ → RctIndex → Type 0
-Builds xs i = building xs ≡ record { verdict = Fine; index = i }
+Builds xs i = building xs ≡ Ok i
 
 -- the plain reading accepts the section, its loop is descriptors from end to end, and the index is the one that the records have
 pub record Whole (xs : List ℕ) (i : RctIndex) : Type 0 where
@@ -59,10 +57,16 @@ pub record Whole (xs : List ℕ) (i : RctIndex) : Type 0 where
   pub uncut : loop_rows (section_at xs) ≡ Fine
   pub is : i ≡ index_of (section_at xs)
 
-built-fine : (v : Verdict) (i j : RctIndex) → built v i ≡ record { verdict = Fine; index = j } → (v ≡ Fine) × (i ≡ j)
+built-fine : (v : Verdict) (i j : RctIndex) → built v i ≡ Ok j → (v ≡ Fine) × (i ≡ j)
 unfolding built
-built-fine Fine i j e = (refl, ap (λ (b : IndexBuilt). b.index) e)
-built-fine (Refused r) i j e = let z : ◌≡◌ {A = Verdict} (Refused r) Fine = ap (λ (b : IndexBuilt). b.verdict) e in let y : ◌≡◌ {A = ℕ} 0 1 = cc in absurd (omega arith)
+built-fine (Ok _) i j e = (refl, ok-same i j e)
+built-fine (Err r) i j e = let z : ◌≡◌ {A = ℕ} 0 1 = cc in absurd (omega arith)
+
+-- a refusal of building is that of its rows
+pub built-refused : (v : Verdict) (i : RctIndex) (r : Refusal) → built v i ≡ Err r → v ≡ Err r
+unfolding built
+built-refused (Ok _) i r e = let z : ◌≡◌ {A = ℕ} 0 1 = cc in absurd (omega arith)
+built-refused (Err q) i r e = cc
 
 builds-whole : (xs : List ℕ) (i : RctIndex) → Builds xs i → Whole xs i
 unfolding building build_verdict
@@ -255,10 +259,10 @@ module _ (xs t : List ℕ) (a : LinkInfo) (b : Bytes xs) (i : RctIndex) (f : Set
 
 -- ---- and an edit that is refused gives back the index that was handed in
 
-pub replaced-keeps-index : (xs : List ℕ) (k : ℕ) (t : List ℕ) (a : LinkInfo) (i : RctIndex) (r : Refusal) → (replacing xs k t a).verdict ≡ Refused r → (replacing_indexed xs k t a i).index ≡ i
+pub replaced-keeps-index : (xs : List ℕ) (k : ℕ) (t : List ℕ) (a : LinkInfo) (i : RctIndex) (r : Refusal) → (replacing xs k t a).verdict ≡ Err r → (replacing_indexed xs k t a i).index ≡ i
 unfolding replacing_indexed brought_up
 replaced-keeps-index xs k t a i r e = rw e
 
-pub appended-keeps-index : (xs t : List ℕ) (a : LinkInfo) (i : RctIndex) (r : Refusal) → (appending xs t a).verdict ≡ Refused r → (appending_indexed xs t a i).index ≡ i
+pub appended-keeps-index : (xs t : List ℕ) (a : LinkInfo) (i : RctIndex) (r : Refusal) → (appending xs t a).verdict ≡ Err r → (appending_indexed xs t a i).index ≡ i
 unfolding appending_indexed brought_up
 appended-keeps-index xs t a i r e = rw e

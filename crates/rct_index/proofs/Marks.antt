@@ -6,20 +6,19 @@ use mathlib.Core.Bool.{Bool, true, false}
 use mathlib.Core.List.{List}
 use mathlib.Core.Option.{none, some}
 use Rattle.wire.specs.Choice.{pick}
-use Rattle.locator.specs.declared.reading.LocatorRead.{LocatorRead}
-use Rattle.locator.specs.declared.reading.LocatorRead.TheVariants as read
 use lib.ListN.{get_or}
 use Rattle.link.specs.Syntax.{Link, LinkFits, here, head_length, uri_due, locator_due}
 use Rattle.link.specs.Reading.{type_at, uri_start, locator_got, locator_in, link_at}
 use Rattle.link.specs.Records as records
 use Rattle.link.specs.Records.{link_of, fields_at}
 use Rattle.link.specs.declared.LinkInfo.{LinkInfo}
-use Rattle.link.specs.declared.LinkLocator.TheVariants as locator
-use Rattle.link.specs.declared.MediaUri.TheVariants as uri
 use Rattle.link.specs.declared.Range.{Range}
 use Rattle.link_draft.specs.Checks.{uri_here, locator_here}
 use Rattle.link_draft.proofs.Exact.{uri-here, locator-here}
 use Rattle.rct_index.specs.Index.{link_marks, marks_in}
+use Rattle.locator.specs.declared.reading.LocatorRead.{LocatorRead}
+use Rattle.std.specs.Prelude.{Err, None, Ok, Result, Some}
+use Rattle.wire.specs.declared.verdict.Refusal.{Refusal}
 
 -- ---- handed in, with any text
 
@@ -40,13 +39,13 @@ marks-due l f = record { uri = f.uri_here; locator = f.locator_here; icon = refl
 
 -- ---- read from a body
 
-uri-read : (b : Bool) (part : List ℕ) (r : Range) → here (pick b (some part) none) ≡ uri_here (pick b (uri.Present r) uri.Absent)
+uri-read : (b : Bool) (part : List ℕ) (r : Range) → here (pick b (some part) none) ≡ uri_here (pick b (Some r) None)
 uri-read true part r = refl
 uri-read false part r = refl
 
-locator-read : (b : Bool) (l : LocatorRead) → here (pick b (locator_got l) none) ≡ locator_here (pick b (records.locator_held l) locator.Absent)
-locator-read true (read.Got l n) = refl
-locator-read true (read.Refused r) = refl
+locator-read : (b : Bool) (l : Result LocatorRead Refusal) → here (pick b (locator_got l) none) ≡ locator_here (pick b (records.locator_held l) None)
+locator-read true (Ok got) = refl
+locator-read true (Err r) = refl
 locator-read false l = refl
 
 pub read-marks : (base r : ℕ) (xs : List ℕ) → link_marks (link_at r xs) ≡ marks_in (fields_at base r xs)

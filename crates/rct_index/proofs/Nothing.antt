@@ -1,15 +1,15 @@
--- What stands beside a refused building, in numbers: zeros.
+-- The index of nothing, in numbers: zeros; it stands beside a refused building where C is answered. And what a refused building answers.
 -- Assumes nothing.
 use Prim.Native.Nat.{ℕ}
 use mathlib.Core.Path.{◌≡◌, refl}
 use mathlib.Core.List.{List, [], ◌∷◌}
 use lib.ListN.{replicate}
 use Rattle.wire.specs.declared.verdict.Refusal.{Refusal}
-use Rattle.wire.specs.declared.verdict.Verdict.TheVariants.{Refused}
 use Rattle.number_set.specs.Members.{of_members, words_of, word}
 use Rattle.rct_index.specs.Index.{sets_of, no_index}
 use Rattle.rct_index.specs.Building.{build_verdict, built, building}
 use Rattle.rct_index.specs.declared.RctIndex.{RctIndex}
+use Rattle.std.specs.Prelude.{Err}
 
 pub record Zeros (i : RctIndex) : Type 0 where
   pub uri : i.sets.uri.words ≡ 0 ∷ 0 ∷ 0 ∷ 0 ∷ []
@@ -22,6 +22,6 @@ pub no_index_lem : Zeros no_index
 unfolding no_index sets_of of_members words_of word
 no_index_lem = record { uri = refl; locator = refl; icon = refl; places = refl; descriptors = refl }
 
-pub build-refused : (xs : List ℕ) (r : Refusal) → build_verdict xs ≡ Refused r → building xs ≡ record { verdict = Refused r; index = no_index }
+pub build-refused : (xs : List ℕ) (r : Refusal) → build_verdict xs ≡ Err r → building xs ≡ Err r
 unfolding building built
 build-refused xs r e = rw e

@@ -12,8 +12,6 @@ use Rattle.rct_index.proofs.RctIndex.none.Kinds as index-none-kinds
 use Rattle.rct_index.proofs.RctIndex.none.Reads as index-none-reads
 use Rattle.rct_index.proofs.RctIndex.place.Kinds as place-kinds
 use Rattle.rct_index.proofs.RctIndex.place.Reads as place-reads
-use Rattle.rct_index.proofs.IndexBuilt.refused.Kinds as refused-kinds
-use Rattle.rct_index.proofs.IndexBuilt.refused.Reads as refused-reads
 
 pub of_one : One of-kinds.ps of-kinds.r of-reads.Asked of-reads.Learnt
 of_one = record { total = λ κs a. tt; one = λ κs a x y v w p q. (both p q, refl) }
@@ -29,6 +27,3 @@ index-none-one = record { total = λ κs a. tt; one = λ κs a x y v w p q. (bot
 
 pub place-one : One place-kinds.ps place-kinds.r place-reads.Asked place-reads.Learnt
 place-one = record { total = λ κs a. tt; one = λ κs a x y v w p q. (both p q, refl) }
-
-pub refused-one : One refused-kinds.ps refused-kinds.r refused-reads.Asked refused-reads.Learnt
-refused-one = record { total = λ κs a. tt; one = λ κs a x y v w p q. (both p q, refl) }

@@ -1,14 +1,12 @@
 -- Building an index: the plain reading's refusals, then 39 if a descriptor of the section's loop is cut off.
 -- Assumes nothing.
-use Rattle.std.specs.Prelude.{ℕ, ◌+◌, List, length}
-use Rattle.wire.specs.Verdict.{◌▷◌}
-use Rattle.wire.specs.declared.verdict.Verdict.{Verdict}
-use Rattle.wire.specs.declared.verdict.Verdict.TheVariants.{Fine, Refused}
+use Rattle.std.specs.Prelude.{ℕ, ◌+◌, List, length, Err, Ok, Result}
+use Rattle.wire.specs.Verdict.{◌▷◌, Verdict}
+use Rattle.wire.specs.declared.verdict.Refusal.{Refusal}
 use Rattle.descriptors.specs.Reading.{cut_verdict}
 use Rattle.rct.specs.Syntax.{Section, entry_place}
 use Rattle.rct.specs.Reading.{section_at, plain}
-use Rattle.rct_index.specs.Index.{index_of, no_index}
-use Rattle.rct_index.specs.declared.IndexBuilt.{IndexBuilt}
+use Rattle.rct_index.specs.Index.{index_of}
 use Rattle.rct_index.specs.declared.RctIndex.{RctIndex}
 
 -- the first descriptor of the loop stands behind the links and the loop's length
@@ -21,10 +19,10 @@ loop_rows s = cut_verdict (descriptor_place s) s.loop.body
 unfoldable pub build_verdict : List ℕ → Verdict
 build_verdict xs = plain xs ▷ loop_rows (section_at xs)
 
--- fine and the index, or a refusal and zeros
-unfoldable pub built : Verdict → RctIndex → IndexBuilt
-built Fine i = record { verdict = Fine; index = i }
-built (Refused r) i = record { verdict = Refused r; index = no_index }
+-- the index, or a refusal
+unfoldable pub built : Verdict → RctIndex → Result RctIndex Refusal
+built (Ok _) i = Ok i
+built (Err r) i = Err r
 
-unfoldable pub building : List ℕ → IndexBuilt
+unfoldable pub building : List ℕ → Result RctIndex Refusal
 building xs = built (build_verdict xs) (index_of (section_at xs))

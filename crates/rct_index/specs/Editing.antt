@@ -1,9 +1,7 @@
 -- What an edit makes of any index that is handed in with it: the named link's bits and place are set, the places of later links move by the change in size, and nothing else changes.
 -- Assumes nothing.
-use Rattle.std.specs.Prelude.{ℕ, suc, ◌+◌, ◌-◌, ◌%◌, ◌^◌, ◌&&◌, List, [], ◌∷◌, ltb, eqb, length}
+use Rattle.std.specs.Prelude.{ℕ, suc, ◌+◌, ◌-◌, ◌%◌, ◌^◌, ◌&&◌, List, [], ◌∷◌, ltb, eqb, length, Err, Ok}
 use Rattle.wire.specs.Choice.{pick}
-use Rattle.wire.specs.declared.verdict.Verdict.{Verdict}
-use Rattle.wire.specs.declared.verdict.Verdict.TheVariants.{Fine, Refused}
 use Rattle.link.specs.Syntax.{Link}
 use Rattle.link.specs.Records.{link_of}
 use Rattle.link.specs.declared.LinkInfo.{LinkInfo}
@@ -16,6 +14,7 @@ use Rattle.rct_index.specs.Index.{link_marks, with_marks}
 use Rattle.rct_index.specs.declared.IndexEdited.{IndexEdited}
 use Rattle.rct_index.specs.declared.LinkMarks.{LinkMarks}
 use Rattle.rct_index.specs.declared.RctIndex.{RctIndex}
+use Rattle.wire.specs.Verdict.{Verdict}
 
 -- ---- places
 
@@ -49,8 +48,8 @@ index_with i s k l s' = told_anew i k (length s.links) (entry_place s k) (full_l
 
 -- an edit that is refused gives back the index that was handed in
 unfoldable pub brought_up : Verdict → RctIndex → RctIndex → RctIndex
-brought_up Fine new old = new
-brought_up (Refused r) new old = old
+brought_up (Ok _) new old = new
+brought_up (Err r) new old = old
 
 abbrev pub indexed : Outcome → RctIndex → RctIndex → IndexEdited
 indexed o new old = record { edited = answer o; index = brought_up o.verdict new old }

@@ -4,14 +4,11 @@
 
 ghost use Rattle.std.specs.Prelude.{◌≡◌, []};
 ghost use Rattle.rct_index.specs.Index.{marks_in, sets_of, with_marks, place_in, no_index};
-ghost use Rattle.rct_index.specs.Building.{built};
-ghost use Rattle.wire.specs.declared.verdict.Verdict.TheVariants.{Refused};
 
-use edit_answers::Edited;
 use link::LinkFields;
 use number_set::NumberSet;
 use rct_edit::MOST_LINKS;
-use wire::verdict::{Refusal, Verdict};
+use wire::verdict::Refusal;
 
 // What an index tells of a link: whether it has a URI, a locator, the default icon flag.
 #[derive(Drop)]
@@ -103,27 +100,9 @@ impl RctIndex {
     }
 }
 
-// What building answers: fine and the index, or a refusal and zeros.
-#[derive(Drop)]
-pub struct IndexBuilt {
-    pub verdict: Verdict,
-    pub index: RctIndex,
-}
-
-impl IndexBuilt {
-    pub fn refused(refusal: Refusal) -> IndexBuilt
-        ensures { result ≡ built (Refused refusal) no_index }
-    {
-        IndexBuilt {
-            verdict: Verdict::Refused(refusal),
-            index: RctIndex::none(),
-        }
-    }
-}
-
 // What an edit with an index answers: what the edit does, and the index as it is then.
 #[derive(Drop)]
 pub struct IndexEdited {
-    pub edited: Edited,
+    pub edited: Result<usize, Refusal>,
     pub index: RctIndex,
 }

@@ -5,6 +5,7 @@ ghost use Rattle.std.specs.Prelude.{◌≡◌};
 ghost use Rattle.rct_edit.specs.Calls.{appending, replacing};
 ghost use Rattle.rct_index.specs.Editing.{appending_indexed, replacing_indexed};
 
+use edit_answers::Spliced;
 use link::LinkInfo;
 use rct_index::{IndexEdited, LinkMarks, RctIndex};
 
@@ -17,7 +18,7 @@ pub fn append(b: &mut [u8], text: &[u8], link: LinkInfo, index: RctIndex) -> Ind
     let marks = LinkMarks::of(fields);
     let put = rct_editor::editing::append_placed(b, text, link);
     IndexEdited {
-        edited: put.edited(),
+        edited: Spliced::edited(put),
         index: rct_index_updater::bring_up(index, rct_index_updater::last_of(put), put, marks),
     }
 }
@@ -37,7 +38,7 @@ pub fn replace(
     let marks = LinkMarks::of(fields);
     let put = rct_editor::editing::replace_placed(b, number, text, link);
     IndexEdited {
-        edited: put.edited(),
+        edited: Spliced::edited(put),
         index: rct_index_updater::bring_up(index, number, put, marks),
     }
 }

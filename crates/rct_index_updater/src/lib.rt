@@ -9,6 +9,7 @@ ghost use Rattle.rct_index_updater.specs.Bringing.{are_numbers, anew_by, last_of
 use edit_answers::Spliced;
 use rct_edit::MOST_LINKS;
 use rct_index::{LinkMarks, RctIndex};
+use wire::verdict::Refusal;
 
 // How many places 16 bits tell apart.
 const TURNS: usize = 65536;
@@ -37,10 +38,8 @@ fn told_anew(
     let sets = index.sets;
     let mut places = index.places;
     places[number] = at as u16;
-    let mut j = number + 1;
-    while j < count {
+    for j in number + 1..count {
         places[j] = moved(places[j], old, new);
-        j += 1;
     }
     RctIndex {
         sets: sets.with(number as u8, marks),
@@ -70,36 +69,45 @@ fn are_numbers(number: usize, count: usize, at: usize, old: usize, new: usize) -
 
 // The index as an edit at link `number` left it, by what that edit answered, or as it was where it was refused. Whoever has
 // little stack calls the edit and then this: the record of the link is gone by then.
-pub fn bring_up(index: RctIndex, number: usize, put: Spliced, marks: LinkMarks) -> RctIndex
+pub fn bring_up(
+    index: RctIndex,
+    number: usize,
+    put: Result<Spliced, Refusal>,
+    marks: LinkMarks,
+) -> RctIndex
     ensures { result ≡ anew_by index number put marks }
 {
     match put {
-        Spliced::Done {
-            total,
-            before,
-            count,
-            at,
-        } => {
+        Ok(
+            Spliced {
+                total,
+                before,
+                count,
+                at,
+            },
+        ) => {
             if are_numbers(number, count, at, before, total) {
                 return told_anew(index, number, count, at, before, total, marks);
             }
             index
         }
-        Spliced::Refused(_) => index,
+        Err(_) => index,
     }
 }
 
 // The number of a link that was appended: how many there were before.
-pub fn last_of(put: Spliced) -> usize
+pub fn last_of(put: Result<Spliced, Refusal>) -> usize
     ensures { result ≡ last_of put }
 {
     match put {
-        Spliced::Done {
-            total: _,
-            before: _,
-            count,
-            at: _,
-        } => count,
-        Spliced::Refused(_) => 0,
+        Ok(
+            Spliced {
+                total: _,
+                before: _,
+                count,
+                at: _,
+            },
+        ) => count,
+        Err(_) => 0,
     }
 }

@@ -9,10 +9,8 @@ use lib.Seq.{length-take-le}
 use Rattle.wire.specs.Lists.{Bytes, part}
 use Rattle.length_field.specs.Lengths.{length_at}
 use Rattle.wire.specs.Refusals.{loop_cut, loop_too_long, section_slack}
-use Rattle.wire.specs.Verdict.{◌▷◌}
+use Rattle.wire.specs.Verdict.{◌▷◌, Fine, Verdict}
 use Rattle.wire.specs.declared.verdict.Refusal.{Refusal}
-use Rattle.wire.specs.declared.verdict.Verdict.{Verdict}
-use Rattle.wire.specs.declared.verdict.Verdict.TheVariants.{Fine, Refused}
 use Rattle.length_field.proofs.Blocks.{last-passed}
 use Rattle.wire.proofs.Verdicts.{then-fine, fine-then, go_on, refused-then}
 use Rattle.descriptors.specs.Reading.{descriptors_of, cut_verdict}
@@ -31,17 +29,18 @@ use Rattle.rct_index.specs.Index.{sets_of, entry_places, filled_places, index_of
 use Rattle.rct_index.specs.Building.{descriptor_place, loop_rows, build_verdict, built, building}
 use Rattle.rct_index.specs.declared.RctIndex.{RctIndex}
 use Rattle.rct_indexer.specs.Stages.{tail_rows, tail_count, payload_rows, payload_index}
+use Rattle.std.specs.Prelude.{Err, Ok}
 
 built-same : (v w : Verdict) (i j : RctIndex) → v ≡ w → (w ≡ Fine → i ≡ j) → built v i ≡ built w j
 unfolding built
 built-same v w i j e f = ap (λ u. built u i) e ∙ by w refl
   where
     by : (u : Verdict) → w ≡ u → built w i ≡ built w j
-    by Fine g = ap (built w) (f g)
-    by (Refused r) g = rw g
+    by (Ok _) g = ap (built w) (f g)
+    by (Err r) g = rw g
 
 -- a section that cannot be opened
-pub closed : (xs : List ℕ) (r : Refusal) → opened rct plain_demands xs ≡ Refused r → build_verdict xs ≡ Refused r
+pub closed : (xs : List ℕ) (r : Refusal) → opened rct plain_demands xs ≡ Err r → build_verdict xs ≡ Err r
 unfolding build_verdict
 closed xs r v = refused-then _ _ r (reading-closed rct payload_verdict plain_demands xs r v)
 
@@ -109,8 +108,8 @@ module _ (xs : List ℕ) (b : Bytes xs) (front : opened rct plain_demands xs ≡
     where
       by : (v : Verdict) → loop_verdict xs e (loop_place xs) ≡ v
           → loop_verdict ys e (loop_place xs) ▷ cut_verdict (loop_place xs + 2) (drop (loop_place xs + 2) ys) ≡ loop_verdict xs e (loop_place xs) ▷ loop_rows (section_at xs)
-      by Fine f = go_on _ _ (loop-same xs e (loop_place xs) ∙ f) ∙ rows_end links f ∙ sym (go_on _ _ f)
-      by (Refused r) f = refused-then _ _ r (loop-same xs e (loop_place xs) ∙ f) ∙ sym (refused-then _ _ r f)
+      by (Ok _) f = go_on _ _ (loop-same xs e (loop_place xs) ∙ f) ∙ rows_end links f ∙ sym (go_on _ _ f)
+      by (Err r) f = refused-then _ _ r (loop-same xs e (loop_place xs) ∙ f) ∙ sym (refused-then _ _ r f)
 
   rows_are : payload_rows n ys ≡ build_verdict xs
   unfolding payload_rows build_verdict
@@ -118,8 +117,8 @@ module _ (xs : List ℕ) (b : Bytes xs) (front : opened rct plain_demands xs ≡
     where
       by : (v : Verdict) → links_verdict n xs e head_length ≡ v
           → links_verdict n xs e head_length ▷ tail_rows ys (after n ys head_length) ≡ (links_verdict n xs e head_length ▷ loop_verdict xs e (loop_place xs)) ▷ loop_rows (section_at xs)
-      by Fine f = go_on _ _ f ∙ tail-is f ∙ sym (ap (λ u. u ▷ loop_rows (section_at xs)) (go_on _ (loop_verdict xs e (loop_place xs)) f))
-      by (Refused r) f = refused-then _ _ r f ∙ sym (refused-then _ _ r (refused-then _ _ r f))
+      by (Ok _) f = go_on _ _ f ∙ tail-is f ∙ sym (ap (λ u. u ▷ loop_rows (section_at xs)) (go_on _ (loop_verdict xs e (loop_place xs)) f))
+      by (Err r) f = refused-then _ _ r f ∙ sym (refused-then _ _ r (refused-then _ _ r f))
 
   pub built-is : built (payload_rows n ys) (payload_index n ys) ≡ building xs
   unfolding building build_verdict

@@ -10,12 +10,8 @@ use lib.Seq.{take_all}
 use Rattle.wire.specs.Lists.{Bytes}
 use Rattle.length_field.specs.Lengths.{beside_at, block_end}
 use Rattle.wire.specs.declared.verdict.Refusal.{Refusal}
-use Rattle.wire.specs.declared.verdict.Verdict.{Verdict}
-use Rattle.wire.specs.declared.verdict.Verdict.TheVariants.{Fine, Refused}
 use Rattle.wire.proofs.Verdicts.{go_on, refused-then, fine-then}
 use Rattle.descriptors.specs.Reading.{descriptors_of, cut_verdict, counted}
-use Rattle.descriptors.specs.declared.DescriptorsCounted.{DescriptorsCounted}
-use Rattle.descriptors.specs.declared.DescriptorsCounted.TheVariants as count
 use Rattle.descriptors.proofs.Loops.{count-le}
 use Rattle.descriptors.proofs.Answers.{counted-number, counted-refused, refused-counted}
 use Rattle.link.specs.Syntax.{Link}
@@ -25,19 +21,19 @@ use Rattle.rct.specs.Reading.{body_in, link_in, after, links_at, links_verdict, 
 use Rattle.rct.proofs.Links.{place_of, links-sum, length-links_at}
 use Rattle.rct_edit.specs.Edit.{most_links}
 use Rattle.rct_blocks.specs.Ends.{end_of}
-use Rattle.rct_entries.specs.Entries.{entry_read}
-use Rattle.rct_entries.specs.declared.EntryRead.TheVariants as entry
+use Rattle.rct_entries.specs.Entries.{entry_read, got_entry}
 use Rattle.rct_entries.proofs.EntryLaws.{EntryHad, entry-had, entry-had-none}
 use Rattle.rct_blocks.proofs.Entries.{after_next, turn_on, turn-stop}
-use Rattle.rct_index.specs.Index.{link_marks, marks_in, sets_of, with_marks, entry_places, filled_places, no_index}
+use Rattle.rct_index.specs.Index.{link_marks, marks_in, sets_of, with_marks, entry_places, filled_places}
 use Rattle.rct_index.specs.Building.{built}
 use Rattle.rct_index.specs.declared.LinkSets.{LinkSets}
 use Rattle.rct_index.specs.declared.RctIndex.{RctIndex}
-use Rattle.rct_index.specs.declared.IndexBuilt.{IndexBuilt}
 use Rattle.rct_index.proofs.Marks.{read-marks}
 use Rattle.rct_index.proofs.Members.{sets_more}
 use Rattle.rct_index.proofs.Places.{filled_more, length-places, places-more}
 use Rattle.rct_indexer.specs.Stages.{tail_rows, tail_count, payload_rows, payload_index}
+use Rattle.std.specs.Prelude.{Err, Ok, Result}
+use Rattle.wire.specs.Verdict.{Fine, Verdict}
 
 -- one link more at the end
 links-next : (k : ℕ) (ys : List ℕ) (p : ℕ) → links_at (suc k) ys p ≡ links_at k ys p ++ link_in ys (after k ys p) ∷ []
@@ -62,11 +58,11 @@ module _ (ys : List ℕ) (n : ℕ) where
       record { behind = omega arith; place = refl; passed = refl; rest = rw z refl; told = e; stored = refl }
 
   module _ (b : Bytes ys) (few : n ≤ most_links) (k p : ℕ) (sets : LinkSets) (places : List ℕ) (w : Walking k p sets places) (h : k < n) where
-    pub walk-stops : (r : Refusal) → entry_read ys p ≡ entry.Refused r → payload_rows n ys ≡ Refused r
+    pub walk-stops : (r : Refusal) → entry_read ys p ≡ Err r → payload_rows n ys ≡ Err r
     unfolding payload_rows
     walk-stops r e = refused-then _ _ r (sym w.rest ∙ turn-stop ys (end_of ys) n k p h r (entry-had-none ys p r e))
 
-    pub walk-on : (l : LinkFields) (i q : ℕ) (sets' : LinkSets) → entry_read ys p ≡ entry.Got l i q → sets' ≡ with_marks sets k (marks_in l) → Walking (k + 1) q sets' (set places k p)
+    pub walk-on : (l : LinkFields) (i q : ℕ) (sets' : LinkSets) → entry_read ys p ≡ got_entry l i q → sets' ≡ with_marks sets k (marks_in l) → Walking (k + 1) q sets' (set places k p)
     walk-on l i q sets' e m =
         record {
           behind = omega arith;
@@ -119,41 +115,38 @@ module _ (ys : List ℕ) (n : ℕ) where
     unfolding payload_rows
     rows_left = go_on _ _ (rw all at w.passed) ∙ ap (tail_rows ys) (sym (rw all at w.place))
 
-    pub walk-cut : (c : DescriptorsCounted) (r : Refusal) → c ≡ counted (tail_rows ys p) (tail_count ys p) → c ≡ count.Refused r → payload_rows n ys ≡ Refused r
+    pub walk-cut : (c : Result ℕ Refusal) (r : Refusal) → c ≡ counted (tail_rows ys p) (tail_count ys p) → c ≡ Err r → payload_rows n ys ≡ Err r
     walk-cut c r e f = rows_left ∙ counted-refused _ _ r (sym e ∙ f)
 
-    pub walk-few : (c : DescriptorsCounted) (m : ℕ) → c ≡ counted (tail_rows ys p) (tail_count ys p) → c ≡ count.Number m → m ≤ length ys
+    pub walk-few : (c : Result ℕ Refusal) (m : ℕ) → c ≡ counted (tail_rows ys p) (tail_count ys p) → c ≡ Ok m → m ≤ length ys
     unfolding tail_count
     walk-few c m e f = omega (arith, (counted-number _ _ m (sym e ∙ f)).1, count-le (drop (p + 2) ys), length-drop (p + 2) ys)
 
-    pub walk_ends : (c : DescriptorsCounted) (m : ℕ) → c ≡ counted (tail_rows ys p) (tail_count ys p) → c ≡ count.Number m
-        → record { verdict = Fine; index = record { sets = sets; places = places; descriptors = m } } ≡ built (payload_rows n ys) (payload_index n ys)
+    pub walk_ends : (c : Result ℕ Refusal) (m : ℕ) → c ≡ counted (tail_rows ys p) (tail_count ys p) → c ≡ Ok m
+        → ◌≡◌ {A = Result RctIndex Refusal} (Ok (record { sets = sets; places = places; descriptors = m })) (built (payload_rows n ys) (payload_index n ys))
     unfolding built payload_index
     walk_ends c m e f =
         let g = counted-number _ _ m (sym e ∙ f) in
         rw (rows_left ∙ g.0)
-        (λ i. record {
-          verdict = Fine;
-          index = record {
-            sets = (w.told ∙ ap (λ j. sets_of (first j)) all) i;
-            places = (w.stored ∙ ap (λ j. filled_places (entry_places head_length (first j))) all) i;
-            descriptors = (sym g.1 ∙ ap (tail_count ys) (rw all at w.place)) i;
-          };
-        })
+        (λ i. Ok (record {
+          sets = (w.told ∙ ap (λ j. sets_of (first j)) all) i;
+          places = (w.stored ∙ ap (λ j. filled_places (entry_places head_length (first j))) all) i;
+          descriptors = (sym g.1 ∙ ap (tail_count ys) (rw all at w.place)) i;
+        }))
 
--- a refusal, with zeros
-pub refused-built : (v : Verdict) (i : RctIndex) (b : IndexBuilt) (r : Refusal) → b ≡ built (Refused r) no_index → v ≡ Refused r → b ≡ built v i
+-- a refusal
+pub refused-built : (v : Verdict) (i : RctIndex) (r : Refusal) → v ≡ Err r → Err r ≡ built v i
 unfolding built
-refused-built v i b r e f = e ∙ rw f
+refused-built v i r f = rw f
 
 -- ---- the loop, as the code checks it and counts its descriptors
 
 module _ (ys : List ℕ) (p : ℕ) where
-  pub tail-on : (c : DescriptorsCounted) → loop_verdict ys (end_of ys) p ≡ Fine → c ≡ counted (cut_verdict (p + 2) (drop (p + 2) ys)) (length (descriptors_of (drop (p + 2) ys)))
+  pub tail-on : (c : Result ℕ Refusal) → loop_verdict ys (end_of ys) p ≡ Fine → c ≡ counted (cut_verdict (p + 2) (drop (p + 2) ys)) (length (descriptors_of (drop (p + 2) ys)))
       → c ≡ counted (tail_rows ys p) (tail_count ys p)
   unfolding tail_rows tail_count
   tail-on c v e = e ∙ ap (λ (u : Verdict). counted u (length (descriptors_of (drop (p + 2) ys)))) (sym (go_on _ _ v))
 
-  pub tail-stops : (r : Refusal) → loop_verdict ys (end_of ys) p ≡ Refused r → count.Refused r ≡ counted (tail_rows ys p) (tail_count ys p)
+  pub tail-stops : (r : Refusal) → loop_verdict ys (end_of ys) p ≡ Err r → Err r ≡ counted (tail_rows ys p) (tail_count ys p)
   unfolding tail_rows
   tail-stops r v = refused-counted _ _ r (refused-then _ _ r v)

@@ -1,8 +1,7 @@
 -- What is built of a payload, the bytes of a section up to its CRC: nothing that a public contract cites.
 -- Assumes nothing.
 use Rattle.std.specs.Prelude.{ℕ, ◌+◌, List, length, drop}
-use Rattle.wire.specs.Verdict.{◌▷◌}
-use Rattle.wire.specs.declared.verdict.Verdict.{Verdict}
+use Rattle.wire.specs.Verdict.{◌▷◌, Verdict}
 use Rattle.descriptors.specs.Reading.{descriptors_of, cut_verdict}
 use Rattle.rct.specs.Syntax.{head_length}
 use Rattle.rct.specs.Reading.{after, links_at, links_verdict, loop_verdict}

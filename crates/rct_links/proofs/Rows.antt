@@ -7,17 +7,13 @@ use native.Mathlib.Omega.{arith}
 use mathlib.Core.List.{List, [], ◌∷◌}
 use lib.ListN.{length, replicate, take}
 use Rattle.length_field.specs.Lengths.{block_rows, last_verdict}
-use Rattle.wire.specs.Verdict.{refuse, ◌▷◌}
-use Rattle.wire.specs.declared.verdict.Verdict.TheVariants.{Fine}
-use Rattle.locator.specs.Reading.{cut, read_locator}
-use Rattle.locator.specs.declared.reading.LocatorRead.TheVariants as place
+use Rattle.wire.specs.Verdict.{refuse, ◌▷◌, Fine}
+use Rattle.locator.specs.Reading.{cut, read_locator, got_locator}
 use Rattle.locator.proofs.Rows.{bytes_l, record_l, row-L, row-L-cut}
 use Rattle.link.specs.Reading.{uri_verdict, locator_rows, count_verdict, item_verdict, items_verdict, front_verdict, rest_verdict, body_verdict}
 use Rattle.link.specs.Records.{item_infos, fields_at, info_at}
 use Rattle.link.specs.Answers.{link_answer}
 use Rattle.link.specs.declared.LinkInfo.{LinkInfo}
-use Rattle.link.specs.declared.MediaUri.TheVariants as uri
-use Rattle.link.specs.declared.LinkLocator.TheVariants as locator
 use Rattle.frame.specs.Reading.{plain_demands, opened, reading_by}
 use Rattle.frame.proofs.Opening.{opened-short}
 use Rattle.frame.proofs.Readings.{reading-closed}
@@ -27,17 +23,17 @@ use Rattle.rct.specs.declared.RctHeader.{RctHeader}
 use Rattle.link.specs.declared.LinkItem.{LinkItem}
 use Rattle.rct_reader.specs.Sections.{section_read}
 use Rattle.rct_reader.specs.declared.RctSection.{RctSection}
-use Rattle.rct_reader.proofs.Nothing.{refused_section}
 use Rattle.rct_bodies.specs.Bodies.{link_rows}
 use Rattle.rct_links.specs.Links.{numbered_link}
+use Rattle.std.specs.Prelude.{None, Ok, Err, Result}
+use Rattle.wire.specs.declared.verdict.Refusal.{Refusal}
 
 -- the answer of the plain reading
-abbrev read : List ℕ → RctSection
+abbrev read : List ℕ → Result RctSection Refusal
 read xs = section_read (plain xs) xs
 
--- a refusal, and beside it zeros
-abbrev refusal : ℕ → ℕ → ℕ → RctSection
-refusal n f g = refused_section (record { number = n; first = f; second = g })
+abbrev refusal : ℕ → ℕ → ℕ → Result RctSection Refusal
+refusal n f g = Err (record { number = n; first = f; second = g })
 
 -- an unused item
 abbrev zero_item : LinkItem
@@ -63,16 +59,16 @@ header_s =
     }
 
 -- a section of so many bytes and links, its empty loop behind byte p
-abbrev section_s : ℕ → ℕ → ℕ → RctSection
+abbrev section_s : ℕ → ℕ → ℕ → Result RctSection Refusal
 section_s total count p =
-    record {
-      verdict = Fine;
+    Ok
+    (record {
       total = total;
       header = header_s;
       number_of_links = count;
       reserved_descriptor_loop_length = 15;
       descriptors = record { start = p; length = 0 };
-    }
+    })
 
 -- link 0 of S1: type 3, how_related 3, term 5, group 1, precedence 2
 abbrev link_s1 : LinkInfo
@@ -87,8 +83,8 @@ link_s1 =
             term_id = 5;
             group_id = 1;
             precedence = 2;
-            media_uri = uri.Absent;
-            dvb_binary_locator = locator.Absent;
+            media_uri = None;
+            dvb_binary_locator = None;
             reserved_number_items = 3;
             number_items = 0;
             default_icon_flag = false;
@@ -120,12 +116,12 @@ module _ (a b c d : ℕ) where
     pub s0-accepted : read (s0 0x76 0x0E) ≡ section_s 17 0 13
     pub s0-other-table : read (s0 0x79 0x0E) ≡ refusal 2 118 121
     pub s0-shorter : read (s0 0x76 0x0D) ≡ refusal 3 13 17
-    pub s1-accepted : (read (s1 1 7 0) ≡ section_s 26 1 22) × (numbered_link (s1 1 7 0) 0 ≡ record { verdict = Fine; link = link_s1 })
+    pub s1-accepted : (read (s1 1 7 0) ≡ section_s 26 1 22) × (numbered_link (s1 1 7 0) 0 ≡ Ok link_s1)
     pub s1-link-6 : read (s1 1 6 0) ≡ refusal 14 7 6
     pub s1-link-8 : read (s1 1 8 0) ≡ refusal 16 1 0
     pub s1-two-links : read (s1 2 7 0) ≡ refusal 6 4 0
     pub s1-loop-1 : read (s1 1 7 1) ≡ refusal 18 1 0
-    pub l-read : read_locator bytes_l ≡ place.Got record_l 8
+    pub l-read : read_locator bytes_l ≡ got_locator record_l 8
     pub l-cut : read_locator (take 7 bytes_l) ≡ cut 8 7
 
   pub rows : Rows

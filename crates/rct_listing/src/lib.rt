@@ -12,14 +12,14 @@ use link::Range;
 use link_lines::{put_link, put_parts};
 use listing::lines::{put_descriptor_count, put_descriptors, put_field, put_header, put_refused};
 use listing::options::Options;
-use listing::{MOST, Program, Taken};
+use listing::{MOST, Program};
 use rct::RctHeader;
 use rct_entries::EntryRead;
 use rct_reader::RctSection;
 use spans::{Span, handed};
 use std::io;
 use std::io::Read;
-use wire::verdict::Verdict;
+use wire::verdict::Refusal;
 
 const NAME: Short = *b"rctlist_________________";
 
@@ -66,18 +66,20 @@ fn put_link_at(
 ) -> io::Result<u16> {
     let entry = rct_entries::read_entry(payload, at);
     match entry {
-        EntryRead::Got {
-            fields,
-            items_at,
-            next,
-        } => {
+        Ok(
+            EntryRead {
+                fields,
+                items_at,
+                next,
+            },
+        ) => {
             put_link(rt, number, fields)?;
             if is_all {
                 put_parts(rt, payload, fields, items_at)?;
             }
             Ok(next)
         }
-        EntryRead::Refused(_) => Ok(at),
+        Err(_) => Ok(at),
     }
 }
 
@@ -95,7 +97,7 @@ fn put_whole(rt: &impl Print, payload: &[u8], r: RctSection, is_all: bool) -> io
     put_links(rt, payload, r.number_of_links, is_all)
 }
 
-fn read(s: &[u8], is_checked: bool) -> RctSection {
+fn read(s: &[u8], is_checked: bool) -> Result<RctSection, Refusal> {
     if is_checked {
         return rct_reader::check_section(s);
     }
@@ -105,12 +107,16 @@ fn read(s: &[u8], is_checked: bool) -> RctSection {
 // The section at the start of `s`, as the options ask.
 pub fn list(rt: &impl Print, s: &[u8], options: Options) -> io::Result<()> {
     let r = read(s, options.is_checked);
-    let verdict = r.verdict;
-    match verdict {
-        Verdict::Refused(refusal) => put_refused(rt, refusal),
-        Verdict::Fine => {
-            let length = frame::payload_end(r.total);
-            put_whole(rt, handed(s, Span { start: 0, length }), r, options.is_all)
+    match r {
+        Err(refusal) => put_refused(rt, refusal),
+        Ok(section) => {
+            let length = frame::payload_end(section.total);
+            put_whole(
+                rt,
+                handed(s, Span { start: 0, length }),
+                section,
+                options.is_all,
+            )
         }
     }
 }
@@ -125,7 +131,7 @@ pub fn run(
     let mut bytes = [0u8; MOST];
     let taken = listing::take(rt, program, options, input, &mut bytes)?;
     match taken {
-        Taken::Bytes(length) => list(rt, handed(&bytes, Span { start: 0, length }), options),
-        Taken::Nothing => Ok(()),
+        Some(length) => list(rt, handed(&bytes, Span { start: 0, length }), options),
+        None => Ok(()),
     }
 }

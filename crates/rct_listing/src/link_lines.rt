@@ -4,11 +4,12 @@ use crate::part;
 use console::Short;
 use console::print::{end_line, put_text, say};
 use link::reading::ItemStep;
-use link::{LangCode, LinkFields, LinkItem, LinkLocator, MediaUri};
-use link_names::link_type::{LinkType, NamedType};
+use link::{LangCode, LinkFields, LinkItem, Range};
+use link_names::link_type::LinkType;
 use listing::lines::{put_descriptor_count, put_descriptors, put_field, put_last};
+use locator::DvbBinaryLocator;
 use name_words::{scheme_name, type_name};
-use scheme_names::{HowRelated, NamedScheme};
+use scheme_names::HowRelated;
 use std::io;
 
 pub(crate) fn put_link(rt: &impl Print, number: usize, link: LinkFields) -> io::Result<()> {
@@ -32,31 +33,31 @@ fn put_name(rt: &impl Print, of: &[u8], name: Short) -> io::Result<()> {
     end_line(rt)
 }
 
-fn put_type(rt: &impl Print, named: NamedType) -> io::Result<()> {
+fn put_type(rt: &impl Print, named: Option<LinkType>) -> io::Result<()> {
     match named {
-        NamedType::Nothing => Ok(()),
-        NamedType::Known(t) => put_name(rt, b"  type_name ", type_name(t)),
+        None => Ok(()),
+        Some(t) => put_name(rt, b"  type_name ", type_name(t)),
     }
 }
 
-fn put_scheme(rt: &impl Print, named: NamedScheme) -> io::Result<()> {
+fn put_scheme(rt: &impl Print, named: Option<HowRelated>) -> io::Result<()> {
     match named {
-        NamedScheme::Nothing => Ok(()),
-        NamedScheme::Known(h) => put_name(rt, b"  related_name ", scheme_name(h)),
+        None => Ok(()),
+        Some(h) => put_name(rt, b"  related_name ", scheme_name(h)),
     }
 }
 
-fn put_uri(rt: &impl Print, payload: &[u8], uri: MediaUri) -> io::Result<()> {
+fn put_uri(rt: &impl Print, payload: &[u8], uri: Option<Range>) -> io::Result<()> {
     match uri {
-        MediaUri::Absent => Ok(()),
-        MediaUri::Present(range) => put_last(rt, b"  uri ", part(payload, range)),
+        None => Ok(()),
+        Some(range) => put_last(rt, b"  uri ", part(payload, range)),
     }
 }
 
-fn put_link_locator(rt: &impl Print, locator: LinkLocator) -> io::Result<()> {
+fn put_link_locator(rt: &impl Print, locator: Option<DvbBinaryLocator>) -> io::Result<()> {
     match locator {
-        LinkLocator::Absent => Ok(()),
-        LinkLocator::Present(present) => put_locator(rt, present),
+        None => Ok(()),
+        Some(present) => put_locator(rt, present),
     }
 }
 
@@ -77,11 +78,11 @@ fn put_item(rt: &impl Print, payload: &[u8], number: usize, item: LinkItem) -> i
 fn put_item_at(rt: &impl Print, payload: &[u8], number: usize, at: u32) -> io::Result<u32> {
     let step = link_reader::item_from(payload, at);
     match step {
-        ItemStep::Got { item, next } => {
+        Ok(ItemStep { item, next }) => {
             put_item(rt, payload, number, item)?;
             Ok(next)
         }
-        ItemStep::Refused(_) => Ok(at),
+        Err(_) => Ok(at),
     }
 }
 

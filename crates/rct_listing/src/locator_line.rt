@@ -4,7 +4,8 @@ use listing::lines::put_field;
 use locator::{DvbBinaryLocator, DvbLocatorIdentifier, DvbLocatorService, DvbLocatorWindows};
 use std::io;
 
-// The type of an identifier (Table 32).
+// The type of an identifier (Table 32). The crate locator_writer has the same for itself alone; a listing does not stand on
+// what writes.
 fn identifier_type(identifier: DvbLocatorIdentifier) -> usize {
     match identifier {
         DvbLocatorIdentifier::None => 0,
@@ -44,13 +45,15 @@ fn put_identifier(rt: &impl Print, identifier: DvbLocatorIdentifier) -> io::Resu
     }
 }
 
-fn put_windows(rt: &impl Print, windows: DvbLocatorWindows) -> io::Result<()> {
+fn put_windows(rt: &impl Print, windows: Option<DvbLocatorWindows>) -> io::Result<()> {
     match windows {
-        DvbLocatorWindows::Absent => Ok(()),
-        DvbLocatorWindows::Present {
-            early_start_window,
-            late_end_window,
-        } => {
+        None => Ok(()),
+        Some(
+            DvbLocatorWindows {
+                early_start_window,
+                late_end_window,
+            },
+        ) => {
             put_field(rt, b" early ", early_start_window as usize)?;
             put_field(rt, b" late ", late_end_window as usize)
         }

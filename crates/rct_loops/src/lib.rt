@@ -7,54 +7,30 @@ ghost use Rattle.rct_walker.specs.Places.{loop_found};
 
 use frame::Demands;
 use rct_walker::{RctLoop, walk};
-use wire::verdict::Verdict;
+use wire::verdict::Refusal;
 
 // The place of the descriptor loop, by the plain reading. The answer is taken apart and made anew: handed on as it came, its
 // words would be copied in pairs right behind their stores, for which the processor waits.
-pub fn plain_loop(s: &[u8]) -> RctLoop
+pub fn plain_loop(s: &[u8]) -> Result<RctLoop, Refusal>
     ensures { result ≡ loop_found (plain s.now) s.now }
 {
-    let found = walk::read_loop(s, Demands::plain());
-    match found {
-        RctLoop::At {
-            total,
-            count,
-            loop_at,
-        } => {
-            return RctLoop::At {
-                total,
-                count,
-                loop_at,
-            };
-        }
-        RctLoop::Refused(r) => {
-            return RctLoop::Refused(r);
-        }
-    }
+    let found = walk::read_loop(s, Demands::plain())?;
+    Ok(RctLoop {
+        total: found.total,
+        count: found.count,
+        loop_at: found.loop_at,
+    })
 }
 
 // The same by the checked reading.
-pub fn checked_loop(s: &[u8]) -> RctLoop
+pub fn checked_loop(s: &[u8]) -> Result<RctLoop, Refusal>
     ensures { result ≡ loop_found (checked s.now) s.now }
 {
-    let read = walk::read_loop(s, Demands::checked());
-    match read {
-        RctLoop::At {
-            total,
-            count,
-            loop_at,
-        } => {
-            let end = frame::payload_end(total);
-            let v = frame_ending::check_crc(s, end);
-            match v {
-                Verdict::Fine => RctLoop::At {
-                    total,
-                    count,
-                    loop_at,
-                },
-                Verdict::Refused(r) => RctLoop::Refused(r),
-            }
-        }
-        RctLoop::Refused(r) => RctLoop::Refused(r),
-    }
+    let found = walk::read_loop(s, Demands::checked())?;
+    frame_ending::check_crc(s, frame::payload_end(found.total))?;
+    Ok(RctLoop {
+        total: found.total,
+        count: found.count,
+        loop_at: found.loop_at,
+    })
 }

@@ -10,7 +10,6 @@ use lib.Seq.{sets}
 use Rattle.length_field.specs.Lengths.{longest, widest_beside, length_bytes, block_bytes}
 use Rattle.byte_stores.specs.Stores.{put_at, Wrote}
 use Rattle.wire.specs.declared.verdict.Refusal.{Refusal}
-use Rattle.wire.specs.declared.verdict.Verdict.TheVariants.{Fine, Refused}
 use Rattle.wire.proofs.Verdicts.{go_on, refused-then}
 use Rattle.byte_stores.proofs.Writing.{then, wrote-length, copied}
 use Rattle.length_field.proofs.Written.{field_put}
@@ -27,12 +26,12 @@ use Rattle.rct.specs.Syntax.{head_length, shortest, Section, head_bytes, payload
 use Rattle.rct.proofs.Accepted.{length-payload, length-section}
 use Rattle.rct_edit.specs.Edit.{bare, room_rows, make_verdict, fresh, made}
 use Rattle.rct_edit.proofs.Assembled.{assembled-fresh}
-use Rattle.edit_answers.specs.Answers.{refused_with, accepted_with}
 use Rattle.rct_edit.specs.Making.{check_making, narrowed_header, LoopNarrow, loop_of}
 use Rattle.rct_edit.specs.Calls.{making}
-use Rattle.edit_answers.specs.declared.Edited.{Edited}
 use Rattle.rct_edit.proofs.Narrow.{header-written, loop-narrow}
 use Rattle.rct_edit.proofs.Outcomes.{Came, done-stops, done-goes, Roomy, room-passed}
+use Rattle.std.specs.Prelude.{Err, Ok, Result}
+use Rattle.wire.specs.Verdict.{Fine}
 
 -- ---- the stores
 
@@ -55,7 +54,7 @@ module _ (xs : List ℕ) (h : RctHeader) (beside : ℕ) (t : List ℕ) (d : Rang
   abbrev section_of : Section
   section_of = bare h (loop_of beside t d)
 
-  pub make-own : (r : Refusal) (e : Edited) → check_making h beside (length t) d ≡ Refused r → e ≡ refused_with (Refused r) → Came (making xs h beside t d) e xs
+  pub make-own : (r : Refusal) (e : Result ℕ Refusal) → check_making h beside (length t) d ≡ Err r → e ≡ Err r → Came (making xs h beside t d) e xs
   unfolding making made make_verdict
   make-own r e c a = done-stops _ _ _ xs r e (refused-then (check_making h beside (length t) d) _ r c) a
 
@@ -68,12 +67,12 @@ module _ (xs : List ℕ) (h : RctHeader) (beside : ℕ) (t : List ℕ) (d : Rang
     unfolding make_verdict
     rows = go_on (check_making h beside (length t) d) _ c ∙ rw length-made
 
-    pub make-room : (r : Refusal) (e : Edited) → room_rows (length xs) len ≡ Refused r → e ≡ refused_with (Refused r) → Came (making xs h beside t d) e xs
+    pub make-room : (r : Refusal) (e : Result ℕ Refusal) → room_rows (length xs) len ≡ Err r → e ≡ Err r → Came (making xs h beside t d) e xs
     unfolding making made
     make-room r e w a = done-stops _ _ _ xs r e (rows ∙ w) a
 
-    pub make-done : (hs y1 y2 y3 : List ℕ) (end total : ℕ) (e : Edited) → room_rows (length xs) len ≡ Fine
-        → hs ≡ head_bytes (narrowed_header h) (len % (longest + 1)) 0 → y1 ≡ put_at xs 0 hs → Wrote y1 head_length (block_bytes (loop_of beside t d)) y2 end → y3 ≡ seal_at y2 end → total ≡ seal_end y2 end → e ≡ accepted_with total
+    pub make-done : (hs y1 y2 y3 : List ℕ) (end total : ℕ) (e : Result ℕ Refusal) → room_rows (length xs) len ≡ Fine
+        → hs ≡ head_bytes (narrowed_header h) (len % (longest + 1)) 0 → y1 ≡ put_at xs 0 hs → Wrote y1 head_length (block_bytes (loop_of beside t d)) y2 end → y3 ≡ seal_at y2 end → total ≡ seal_end y2 end → e ≡ Ok total
         → Came (making xs h beside t d) e y3
     unfolding making made
     make-done hs y1 y2 y3 end total e w eh e1 e2 e3 et a =

@@ -9,14 +9,13 @@ ghost use Rattle.rct_edit.specs.Answers.{answer};
 ghost use Rattle.rct_edit.specs.Making.{check_loop, check_making, narrowed_header, LoopNarrow, loop_of};
 ghost use Rattle.rct_edit.specs.Calls.{making};
 
-use edit_answers::Edited;
 use field::Field;
 use length_field::LengthField;
 use link::Range;
 use link_draft::check_range;
 use rct::RctHeader;
 use rct_edit::room::check_room;
-use wire::verdict::{Verdict, first_of};
+use wire::verdict::{Refusal, first_of};
 
 // Makes a section with no links from the first byte on: the header, the loop's descriptors, which are a range of
 // `text`, and the CRC.
@@ -26,32 +25,26 @@ pub fn make(
     reserved_descriptor_loop_length: u16,
     text: &[u8],
     descriptors: Range,
-) -> Edited
+) -> Result<usize, Refusal>
     ensures value { result ≡ answer (making b.old header reserved_descriptor_loop_length text.now descriptors) }
     ensures b_after { b.new ≡ (making b.old header reserved_descriptor_loop_length text.now descriptors).buffer }
 {
-    let parts = check_making(
+    check_making(
         header,
         reserved_descriptor_loop_length,
         text.len(),
         descriptors,
-    );
-    let Verdict::Fine = parts else {
-        return Edited::refused(parts);
-    };
+    )?;
     let length = RctHeader::SHORTEST as usize + descriptors.length as usize;
-    let room = check_room(b.len(), length);
-    let Verdict::Fine = room else {
-        return Edited::refused(room);
-    };
+    check_room(b.len(), length)?;
     let head = head_bytes(header, length);
     byte_stores::put_at(b, 0, &head);
     let end = put_loop(b, reserved_descriptor_loop_length, text, descriptors);
-    Edited::accepted(frame_ending::seal(b, end))
+    Ok(frame_ending::seal(b, end))
 }
 
 // 22 of ranks 23 and 24.
-fn check_loop(reserved: u16, range: Range) -> Verdict
+fn check_loop(reserved: u16, range: Range) -> Result<(), Refusal>
     ensures { result ≡ check_loop reserved range }
 {
     first_of(
@@ -61,7 +54,7 @@ fn check_loop(reserved: u16, range: Range) -> Verdict
 }
 
 // 38 and 22 of the header, 22 of the loop, and 25.
-fn check_making(header: RctHeader, reserved: u16, have: usize, range: Range) -> Verdict
+fn check_making(header: RctHeader, reserved: u16, have: usize, range: Range) -> Result<(), Refusal>
     ensures { result ≡ check_making header reserved have range }
 {
     let section = header.section;

@@ -9,7 +9,6 @@ use lib.ListN.{get_or}
 use Rattle.wire.specs.Choice.{pick}
 use Rattle.wire.specs.Lists.{Bytes, part}
 use Rattle.spans.specs.Spans.{span, span_of}
-use Rattle.wire.specs.declared.verdict.Verdict.TheVariants.{Fine}
 use Rattle.wire.proofs.Verdicts.{fine-then}
 use Rattle.link.specs.Syntax.{head_length, Item, Link, uri_due}
 use Rattle.link.specs.Reading.{type_at, uri_start, items_place, item_count, body_verdict, link_at}
@@ -20,14 +19,18 @@ use Rattle.rct_bodies.specs.Bodies.{body_of}
 use Rattle.rct_bodies.specs.declared.NumberedBody.{NumberedBody}
 use Rattle.rct_bodies.proofs.Bodies.{rows-fine, body-found, LinkKnown, link-known}
 use Rattle.rct_links.proofs.Images.{items_at_lem, in-range}
-use Rattle.rct_parts.specs.Parts.{body_part}
+use Rattle.rct_parts.specs.Parts.{body_span_of, body_part}
+use Rattle.std.specs.Prelude.{Result}
+use Rattle.wire.specs.Verdict.{Fine}
+use Rattle.wire.specs.declared.verdict.Refusal.{Refusal}
 
 module _ (xs : List ℕ) (b : Bytes xs) (k : ℕ) (v : plain xs ≡ Fine) (h : k < count_at xs) where
   known : LinkKnown xs k
   known = link-known xs k b (rows-fine xs k v h)
 
   pub body-handed : body_part xs k ≡ body_of xs k
-  body-handed = ap (λ (n : NumberedBody). span_of xs n.body) (sym (body-found xs k _ _ _ (rows-fine xs k v h) refl refl refl))
+  unfolding body_span_of
+  body-handed = ap (λ (n : Result NumberedBody Refusal). span_of xs (body_span_of n)) (sym (body-found xs k _ _ _ (rows-fine xs k v h) refl refl refl))
 
   -- a URI exactly where the link's type has one
   pub uri-handed : (d : Link) → (get_or (section_at xs).links k d).uri ≡ pick (uri_due (get_or (section_at xs).links k d).link_type) (some (span_of (body_part xs k) (uri_span (body_part xs k)))) none

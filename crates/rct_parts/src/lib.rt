@@ -6,18 +6,46 @@ ghost use Rattle.std.specs.Prelude.{◌≡◌, ◌+◌};
 ghost use Rattle.wire.specs.Lists.{within};
 ghost use Rattle.spans.specs.Spans.{span_of};
 ghost use Rattle.link.specs.Parts.{uri_span, text_span, descriptor_span};
-ghost use Rattle.rct_parts.specs.Parts.{body_span, body_part, loop_span};
+ghost use Rattle.rct_parts.specs.Parts.{body_span_of, loop_span_of, body_span, body_part, loop_span};
 
+use rct_bodies::NumberedBody;
+use rct_reader::RctSection;
 use spans::{Span, handed};
+use wire::verdict::Refusal;
+
+// What is handed back where there is no such part: nothing, at the section's start.
+pub const NOTHING: Span = Span {
+    start: 0,
+    length: 0,
+};
+
+fn body_span_of(found: Result<NumberedBody, Refusal>) -> Span
+    ensures { result ≡ body_span_of found }
+{
+    match found {
+        Ok(NumberedBody { reserved: _, body }) => body,
+        Err(_) => NOTHING,
+    }
+}
+
+fn loop_span_of(found: Result<RctSection, Refusal>) -> Span
+    ensures { result ≡ loop_span_of found }
+{
+    match found {
+        Ok(read) => Span {
+            start: read.descriptors.start as usize,
+            length: read.descriptors.length as usize,
+        },
+        Err(_) => NOTHING,
+    }
+}
 
 // The body of a link by number.
 pub fn link_body(s: &[u8], number: usize) -> &[u8]
     ensures result_value { result.now ≡ body_part s.now number }
     ensures ref_ptr_value { result.ref_ptr ≡ within s.entry.ref_ptr (body_span s.now number).start }
 {
-    let found = rct_bodies::numbered_body(s, number);
-    let body = found.body;
-    handed(s, body)
+    handed(s, body_span_of(rct_bodies::numbered_body(s, number)))
 }
 
 // The URI of a link by number.
@@ -49,10 +77,5 @@ pub fn loop_descriptors(s: &[u8]) -> &[u8]
     ensures result_value { result.now ≡ span_of s.now (loop_span s.now) }
     ensures ref_ptr_value { result.ref_ptr ≡ within s.entry.ref_ptr (loop_span s.now).start }
 {
-    let read = rct_reader::read_section(s);
-    let span = Span {
-        start: read.descriptors.start as usize,
-        length: read.descriptors.length as usize,
-    };
-    handed(s, span)
+    handed(s, loop_span_of(rct_reader::read_section(s)))
 }

@@ -1,27 +1,21 @@
 // Reading a related content section as a whole, by plain and by checked reading.
 #![tactic(auto)]
 
-ghost use Rattle.std.specs.Prelude.{◌≡◌, ℕ, ◌≤◌, length};
-ghost use Rattle.wire.specs.declared.verdict.Verdict.{Verdict};
-ghost use Rattle.wire.specs.declared.verdict.Verdict.TheVariants.{Fine};
-ghost use Rattle.frame.specs.Reading.{total_of};
+ghost use Rattle.std.specs.Prelude.{◌≡◌, ◌≤◌, length, Ok};
 ghost use Rattle.rct.specs.Syntax.{head_length};
-ghost use Rattle.rct.specs.Reading.{rct_header_at, count_at, loop_place, plain, checked};
+ghost use Rattle.rct.specs.Reading.{rct_header_at, plain, checked};
 ghost use Rattle.rct_walker.specs.Places.{loop_found};
-ghost use Rattle.rct_walker.specs.declared.RctLoop.TheVariants.{At};
-ghost use Rattle.rct_reader.specs.Sections.{no_section, section_read};
+ghost use Rattle.rct_reader.specs.Sections.{section_info, section_read};
 
 use length_field::LengthField;
 use link::Range;
 use rct::RctHeader;
 use rct_walker::RctLoop;
-use section_header::SectionHeader;
-use wire::verdict::{Refusal, Verdict};
+use wire::verdict::Refusal;
 
-// A section that was read, or a refusal beside zeros.
+// A section that was read.
 #[derive(Clone, Copy)]
 pub struct RctSection {
-    pub verdict: Verdict,
     pub total: usize,
     pub header: RctHeader,
     pub number_of_links: usize,
@@ -41,18 +35,18 @@ fn header_at(s: &[u8]) -> RctHeader
     }
 }
 
-// The record of an accepted section, by what its walk found.
-fn section_at(s: &[u8], total: usize, number_of_links: usize, loop_at: usize) -> RctSection
-    requires { ((total ≡ total_of s.now) × ((number_of_links ≡ count_at s.now) × (loop_at ≡ loop_place s.now))) × (plain s.now ≡ Fine) }
-    ensures { result ≡ section_read Fine s.now }
+// The record of a section that the plain reading accepts, by what its walk found.
+fn section_at(s: &[u8], found: RctLoop) -> RctSection
+    requires { loop_found (plain s.now) s.now ≡ Ok found }
+    ensures { result ≡ section_info s.now }
 {
+    let loop_at = found.loop_at;
     let header = header_at(s);
     let field = LengthField::of_bytes(s[loop_at], s[loop_at + 1]);
     RctSection {
-        verdict: Verdict::Fine,
-        total,
+        total: found.total,
         header,
-        number_of_links,
+        number_of_links: found.count,
         reserved_descriptor_loop_length: field.beside as u16,
         descriptors: Range {
             start: (loop_at + LengthField::BYTES) as u32,
@@ -61,51 +55,18 @@ fn section_at(s: &[u8], total: usize, number_of_links: usize, loop_at: usize) ->
     }
 }
 
-fn no_section(refusal: Refusal) -> RctSection
-    ensures { result ≡ no_section refusal }
-{
-    let section = SectionHeader::none();
-    RctSection {
-        verdict: Verdict::Refused(refusal),
-        total: 0,
-        header: RctHeader {
-            section,
-            year_offset: 0,
-        },
-        number_of_links: 0,
-        reserved_descriptor_loop_length: 0,
-        descriptors: Range {
-            start: 0,
-            length: 0,
-        },
-    }
-}
-
-// What either reading answers, by what its walk found.
-fn section_of(s: &[u8], found: RctLoop) -> RctSection
-    requires { (t n p : ℕ) → found ≡ At t n p → ((t ≡ total_of s.now) × ((n ≡ count_at s.now) × (p ≡ loop_place s.now))) × (plain s.now ≡ Fine) }
-    ensures { (v : Verdict) → found ≡ loop_found v s.now → result ≡ section_read v s.now }
-{
-    match found {
-        RctLoop::At {
-            total,
-            count,
-            loop_at,
-        } => section_at(s, total, count, loop_at),
-        RctLoop::Refused(r) => no_section(r),
-    }
-}
-
 // The plain reading: refusals 1 to 19.
-pub fn read_section(s: &[u8]) -> RctSection
+pub fn read_section(s: &[u8]) -> Result<RctSection, Refusal>
     ensures { result ≡ section_read (plain s.now) s.now }
 {
-    section_of(s, rct_loops::plain_loop(s))
+    let found = rct_loops::plain_loop(s)?;
+    Ok(section_at(s, found))
 }
 
 // The checked reading: the plain one, then 20.
-pub fn check_section(s: &[u8]) -> RctSection
+pub fn check_section(s: &[u8]) -> Result<RctSection, Refusal>
     ensures { result ≡ section_read (checked s.now) s.now }
 {
-    section_of(s, rct_loops::checked_loop(s))
+    let found = rct_loops::checked_loop(s)?;
+    Ok(section_at(s, found))
 }

@@ -9,12 +9,12 @@ use Rattle.wire.proofs.Among.{listed}
 use Rattle.rct.specs.Reading.{plain, checked}
 use Rattle.rct.proofs.Listed.{plain_reading, checked_reading, plain-listed, checked-listed}
 use Rattle.rct_walker.specs.Places.{places_at, walked}
-use Rattle.rct_walker.specs.declared.RctWalked.TheVariants as walk
 use Rattle.rct_walker.proofs.Walks.{walked-refused}
+use Rattle.std.specs.Prelude.{Err}
 
 module _ (xs : List ℕ) (r : Refusal) where
-  pub plain-places-listed : (k : ℕ) → walked (plain xs) (places_at xs k) ≡ walk.Refused r → listed r.number plain_reading ≡ true
+  pub plain-places-listed : (k : ℕ) → walked (plain xs) (places_at xs k) ≡ Err r → listed r.number plain_reading ≡ true
   plain-places-listed k e = plain-listed xs r (walked-refused (plain xs) _ r e)
 
-  pub checked-places-listed : (k : ℕ) → walked (checked xs) (places_at xs k) ≡ walk.Refused r → listed r.number checked_reading ≡ true
+  pub checked-places-listed : (k : ℕ) → walked (checked xs) (places_at xs k) ≡ Err r → listed r.number checked_reading ≡ true
   checked-places-listed k e = checked-listed xs r (walked-refused (checked xs) _ r e)

@@ -2,12 +2,13 @@
 -- Assumes nothing.
 use Prim.Native.Nat.{ℕ, ◌+◌, ◌-◌, ◌%◌, ◌≤◌, ◌<◌}
 use mathlib.Core.Path.{◌≡◌, sym, ap, ◌∙◌}
-use mathlib.Core.List.{List, [], ◌∷◌}
+use mathlib.Core.List.{List}
 use native.Mathlib.Omega.{arith}
-use lib.ListN.{length, get_or, set, replicate, length-replicate, replicate-append-replicate}
+use lib.ListN.{length, get_or, set, replicate, length-replicate}
 use lib.Seq.{sets}
 use Rattle.length_field.specs.Lengths.{longest, widest_beside, length_bytes, beside_at}
-use Rattle.byte_stores.proofs.Writing.{sets-append}
+use Rattle.byte_stores.proofs.Writing.{part_put}
+use borrow.Rule.Slice.PartMut.{put_mid}
 use Rattle.rct.specs.Syntax.{link_count_place}
 use Rattle.rct_edit.specs.Edit.{filler}
 use Rattle.rct_edit.specs.Rehead.{rehead}
@@ -16,22 +17,14 @@ use Rattle.rct_stores.proofs.Exact.{numbers-put, fills}
 
 -- ---- filler
 
-pub fill_none : (xs : List ℕ) (p n : ℕ) → n ≡ 0 → xs ≡ sets xs p (replicate n filler)
-fill_none xs p n z = rw z
-
-pub fill_more : (xs ys : List ℕ) (p i : ℕ) → p ≤ i → ys ≡ sets xs p (replicate (i - p) filler) → set ys i filler ≡ sets xs p (replicate (i + 1 - p) filler)
-fill_more xs ys p i h e =
-    let at : i ≡ p + length (replicate (i - p) filler) = omega (arith, length-replicate (i - p) filler) in
-    let one : i + 1 - p ≡ (i - p) + 1 = omega arith in
-    ap (λ zs. set zs i filler) e
-    ∙ ap (λ j. set (sets xs p (replicate (i - p) filler)) j filler) at
-    ∙ sets-append xs (replicate (i - p) filler) (filler ∷ []) p
-    ∙ ap (sets xs p) (replicate-append-replicate (i - p) 1 filler)
-    ∙ ap (λ n. sets xs p (replicate n filler)) (sym one)
-
-pub fill-all : (xs ys : List ℕ) (p i e : ℕ) → e ≤ length xs → e ≤ i → i - p ≤ e - p → ys ≡ sets xs p (replicate (i - p) filler) → ys ≡ fill_put xs p e
+-- where the new end lies past the old one, nothing is filled
+pub fill_none : (xs : List ℕ) (p e : ℕ) → e ≤ length xs → e ≤ p → xs ≡ fill_put xs p e
 unfolding filled_up
-fill-all xs ys p i e r h l s = let n : i - p ≡ e - p = omega arith in s ∙ ap (λ m. sets xs p (replicate m filler)) n ∙ sym (fills xs p e r)
+fill_none xs p e r h = let n : e - p ≡ 0 = omega arith in ap (λ m. sets xs p (replicate m filler)) (sym n) ∙ sym (fills xs p e r)
+
+pub fill-all : (xs ys : List ℕ) (p e : ℕ) → e ≤ length xs → p ≤ e → ys ≡ replicate (e - p) filler → put_mid p (e - p) xs ys ≡ fill_put xs p e
+unfolding filled_up
+fill-all xs ys p e r h s = part_put xs (replicate (e - p) filler) ys p (e - p) s (sym (length-replicate (e - p) filler)) (omega (arith, length-replicate (e - p) filler)) ∙ sym (fills xs p e r)
 
 -- ---- the head's numbers
 

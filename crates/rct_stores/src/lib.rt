@@ -33,9 +33,8 @@ pub fn fill(b: &mut [u8], from: usize, to: usize)
     if b.len() < to {
         return;
     }
-    let mut i = from;
-    while i < to {
-        b[i] = rct_edit::filler();
-        i += 1;
+    if to < from {
+        return;
     }
+    b[from..to].fill(rct_edit::filler());
 }

@@ -10,13 +10,12 @@ use Rattle.frame.specs.declared.Demands.{Demands}
 use Rattle.rct.specs.Reading.{reading}
 use Rattle.rct.proofs.Listed.{demanded_reading, reading-listed}
 use Rattle.rct_walker.specs.Places.{places_at, walked, loop_found}
-use Rattle.rct_walker.specs.declared.RctLoop.TheVariants as whole
-use Rattle.rct_walker.specs.declared.RctWalked.TheVariants as walk
 use Rattle.rct_walker.proofs.Loops.{loop-not}
 use Rattle.rct_walker.proofs.Walks.{walked-refused}
+use Rattle.std.specs.Prelude.{Err}
 
-pub read-places-listed : (d : Demands) (xs : List ℕ) (k : ℕ) (r : Refusal) → walked (reading d xs) (places_at xs k) ≡ walk.Refused r → listed r.number demanded_reading ≡ true
+pub read-places-listed : (d : Demands) (xs : List ℕ) (k : ℕ) (r : Refusal) → walked (reading d xs) (places_at xs k) ≡ Err r → listed r.number demanded_reading ≡ true
 read-places-listed d xs k r e = reading-listed d xs r (walked-refused (reading d xs) _ r e)
 
-pub read-loop-listed : (d : Demands) (xs : List ℕ) (r : Refusal) → loop_found (reading d xs) xs ≡ whole.Refused r → listed r.number demanded_reading ≡ true
+pub read-loop-listed : (d : Demands) (xs : List ℕ) (r : Refusal) → loop_found (reading d xs) xs ≡ Err r → listed r.number demanded_reading ≡ true
 read-loop-listed d xs r e = reading-listed d xs r (loop-not (reading d xs) xs r e)

@@ -6,8 +6,6 @@ use native.Mathlib.Omega.{arith}
 use mathlib.Core.List.{List}
 use lib.ListN.{take}
 use lib.Seq.{get_or-take}
-use Rattle.wire.specs.declared.verdict.Verdict.{Verdict}
-use Rattle.wire.specs.declared.verdict.Verdict.TheVariants.{Fine, Refused}
 use Rattle.wire.proofs.Verdicts.{then-fine, go_on, refused-then}
 use Rattle.frame.specs.Reading.{payload_end}
 use Rattle.frame.specs.declared.Demands.{Demands}
@@ -22,6 +20,8 @@ use Rattle.rct_blocks.proofs.Ends.{end-cut}
 use Rattle.rct_walker.specs.Places.{link_span, places_at, walked}
 use Rattle.rct_walker.specs.Stages.{rest_verdict, places_in}
 use Rattle.rct_walker.specs.declared.RctPlaces.{RctPlaces}
+use Rattle.std.specs.Prelude.{Err, Ok}
+use Rattle.wire.specs.Verdict.{Fine, Verdict}
 
 -- ---- cut off at e, from p on
 
@@ -31,10 +31,10 @@ module _ (n : ℕ) (xs : List ℕ) (e p : ℕ) where
   rest-same = by (links_verdict n xs e p) refl
     where
       by : (v : Verdict) → links_verdict n xs e p ≡ v → rest_verdict n (take e xs) e p ≡ rest_verdict n xs e p
-      by Fine f =
+      by (Ok _) f =
           go_on _ _ (links-same n xs e p ∙ f) ∙ ap (loop_verdict (take e xs) e) (links-alike n xs e p f).place ∙ loop-same xs e (after n xs p)
           ∙ sym (go_on _ _ f)
-      by (Refused r) f = refused-then _ _ r (links-same n xs e p ∙ f) ∙ sym (refused-then _ _ r f)
+      by (Err r) f = refused-then _ _ r (links-same n xs e p ∙ f) ∙ sym (refused-then _ _ r f)
 
   -- each of the places on the way
   place_same : links_verdict n xs e p ≡ Fine → (k : ℕ) → k ≤ n → after k (take e xs) p ≡ after k xs p
@@ -47,8 +47,8 @@ unfolding walked
 walked_same v w k l e f = ap (λ u. walked u k) e ∙ by w refl
   where
     by : (u : Verdict) → w ≡ u → walked w k ≡ walked w l
-    by Fine g = ap (walked w) (f g)
-    by (Refused r) g = rw g
+    by (Ok _) g = ap (walked w) (f g)
+    by (Err r) g = rw g
 
 -- ---- the payload of a section that was opened
 

@@ -1,28 +1,24 @@
 -- What the stages of the walk answer, case by case, over plain lists: the code's returns cite these.
 -- Assumes nothing.
-use mathlib.Core.Path.{◌≡◌, refl, sym, ◌∙◌}
+use mathlib.Core.Path.{◌≡◌, refl, sym, ◌∙◌, ap}
 use Prim.Native.Nat.{ℕ, zero, suc, ◌+◌, ◌-◌, ◌≤◌, ◌<◌, min}
 use native.Mathlib.Omega.{arith}
 use mathlib.Core.List.{List}
 use lib.ListN.{take, drop}
 use borrow.Author.Tests.{le-leb, lt-leb}
 use Rattle.length_field.specs.Lengths.{length_at, block_end}
-use Rattle.wire.specs.Verdict.{◌▷◌}
+use Rattle.wire.specs.Verdict.{◌▷◌, Fine, Verdict}
 use Rattle.wire.specs.declared.verdict.Refusal.{Refusal}
-use Rattle.wire.specs.declared.verdict.Verdict.{Verdict}
-use Rattle.wire.specs.declared.verdict.Verdict.TheVariants.{Fine, Refused}
-use Rattle.wire.proofs.Verdicts.{then-fine, go_on, refused-then, then-assoc}
+use Rattle.wire.proofs.Verdicts.{then-fine, go_on, refused-then, then-assoc, ok-same, some-same}
 use Rattle.link.specs.Reading.{body_verdict}
 use Rattle.rct.specs.Syntax.{head_length}
 use Rattle.rct.specs.Reading.{after, count_at, link_place, loop_place, entry_verdict, links_verdict, loop_verdict}
 use Rattle.rct.proofs.Links.{entry-passed, after-sum, links-sum}
 use Rattle.rct_blocks.proofs.Entries.{Passed, entry-body, after_next}
-use Rattle.rct_walker.specs.Places.{span_by, link_span, walked}
-use Rattle.rct_walker.specs.Stages.{spanned, rest_verdict}
-use Rattle.rct_walker.specs.declared.LinkSpan.TheVariants as span
+use Rattle.rct_walker.specs.Places.{span_by, link_span, walked, some_span}
+use Rattle.rct_walker.specs.Stages.{spanned, rest_verdict, found_span}
 use Rattle.rct_walker.specs.declared.RctPlaces.{RctPlaces}
-use Rattle.rct_walker.specs.declared.RctWalked.TheVariants as walk
-use Rattle.rct_walker.specs.declared.walk.Spanned.TheVariants as spot
+use Rattle.std.specs.Prelude.{Err, None, Ok}
 
 -- ---- answers, made and taken apart
 
@@ -31,47 +27,47 @@ pub record SpanKnown (v : Verdict) (p q a b : ℕ) : Type 0 where
   pub start : p ≡ a
   pub end : q ≡ b
 
-pub spanned-at : (v : Verdict) (p q a b : ℕ) → spanned v p q ≡ spot.At a b → SpanKnown v p q a b
+pub spanned-at : (v : Verdict) (p q a b : ℕ) → spanned v p q ≡ found_span a b → SpanKnown v p q a b
 unfolding spanned
-spanned-at Fine p q a b e = record { fine = refl; start = cc; end = cc }
-spanned-at (Refused r) p q a b e = let z : ◌≡◌ {A = ℕ} 0 1 = cc in absurd (omega arith)
+spanned-at (Ok _) p q a b e = let same = ok-same _ _ e in record { fine = refl; start = ap (λ s. s.start) same; end = ap (λ s. s.end) same }
+spanned-at (Err r) p q a b e = let z : ◌≡◌ {A = ℕ} 0 1 = cc in absurd (omega arith)
 
-pub spanned-refused : (v : Verdict) (p q : ℕ) (r : Refusal) → spanned v p q ≡ spot.Refused r → v ≡ Refused r
+pub spanned-refused : (v : Verdict) (p q : ℕ) (r : Refusal) → spanned v p q ≡ Err r → v ≡ Err r
 unfolding spanned
-spanned-refused Fine p q r e = let z : ◌≡◌ {A = ℕ} 0 1 = cc in absurd (omega arith)
-spanned-refused (Refused r') p q r e = cc
+spanned-refused (Ok _) p q r e = let z : ◌≡◌ {A = ℕ} 0 1 = cc in absurd (omega arith)
+spanned-refused (Err r') p q r e = cc
 
-pub at-spanned : (v : Verdict) (p q a b : ℕ) → v ≡ Fine → p ≡ a → q ≡ b → spot.At a b ≡ spanned v p q
+pub at-spanned : (v : Verdict) (p q a b : ℕ) → v ≡ Fine → p ≡ a → q ≡ b → found_span a b ≡ spanned v p q
 unfolding spanned
 at-spanned v p q a b f g h = rw (f, g, h)
 
-pub refused-spanned : (v : Verdict) (p q : ℕ) (r : Refusal) → v ≡ Refused r → spot.Refused r ≡ spanned v p q
+pub refused-spanned : (v : Verdict) (p q : ℕ) (r : Refusal) → v ≡ Err r → Err r ≡ spanned v p q
 unfolding spanned
 refused-spanned v p q r e = rw e
 
-pub walked-read : (v : Verdict) (k l : RctPlaces) → walked v k ≡ walk.Read l → (v ≡ Fine) × (k ≡ l)
+pub walked-read : (v : Verdict) (k l : RctPlaces) → walked v k ≡ Ok l → (v ≡ Fine) × (k ≡ l)
 unfolding walked
-walked-read Fine k l e = (refl, cc)
-walked-read (Refused r) k l e = let z : ◌≡◌ {A = ℕ} 0 1 = cc in absurd (omega arith)
+walked-read (Ok _) k l e = (refl, cc)
+walked-read (Err r) k l e = let z : ◌≡◌ {A = ℕ} 0 1 = cc in absurd (omega arith)
 
-pub walked-refused : (v : Verdict) (k : RctPlaces) (r : Refusal) → walked v k ≡ walk.Refused r → v ≡ Refused r
+pub walked-refused : (v : Verdict) (k : RctPlaces) (r : Refusal) → walked v k ≡ Err r → v ≡ Err r
 unfolding walked
-walked-refused Fine k r e = let z : ◌≡◌ {A = ℕ} 0 1 = cc in absurd (omega arith)
-walked-refused (Refused r') k r e = cc
+walked-refused (Ok _) k r e = let z : ◌≡◌ {A = ℕ} 0 1 = cc in absurd (omega arith)
+walked-refused (Err r') k r e = cc
 
-pub read-walked : (v : Verdict) (k l : RctPlaces) → v ≡ Fine → k ≡ l → walk.Read l ≡ walked v k
+pub read-walked : (v : Verdict) (k l : RctPlaces) → v ≡ Fine → k ≡ l → Ok l ≡ walked v k
 unfolding walked
 read-walked v k l e f = rw (e, f)
 
-pub refused-walked : (v : Verdict) (k : RctPlaces) (r : Refusal) → v ≡ Refused r → walk.Refused r ≡ walked v k
+pub refused-walked : (v : Verdict) (k : RctPlaces) (r : Refusal) → v ≡ Err r → Err r ≡ walked v k
 unfolding walked
 refused-walked v k r e = rw e
 
-pub span-at : (n k p q : ℕ) → k ≤ n → span.At p q ≡ span_by n k p q
+pub span-at : (n k p q : ℕ) → k ≤ n → some_span p q ≡ span_by n k p q
 unfolding span_by
 span-at n k p q h = rw (le-leb k n h)
 
-pub span_none : (n k p q : ℕ) → n < k → span.NoSuchLink ≡ span_by n k p q
+pub span_none : (n k p q : ℕ) → n < k → None ≡ span_by n k p q
 unfolding span_by
 span_none n k p q h = rw (lt-leb k n h)
 
@@ -98,7 +94,7 @@ module _ (m n : ℕ) (xs : List ℕ) (e p : ℕ) where
   pub links-on : links_verdict m xs e p ≡ Fine → links_verdict n xs e (after m xs p) ≡ links_verdict (m + n) xs e p
   links-on v = sym (links-sum m n xs e p ∙ go_on _ _ v)
 
-  pub links-stop : (r : Refusal) → links_verdict m xs e p ≡ Refused r → links_verdict (m + n) xs e p ≡ Refused r
+  pub links-stop : (r : Refusal) → links_verdict m xs e p ≡ Err r → links_verdict (m + n) xs e p ≡ Err r
   links-stop r v = links-sum m n xs e p ∙ refused-then _ _ r v
 
 -- ---- the rest of a payload behind m of its links
@@ -108,7 +104,7 @@ module _ (xs : List ℕ) (e m n : ℕ) (is : m + n ≡ count_at xs) where
   unfolding rest_verdict
   whole = rw (← is, links-sum m n xs e head_length, after-sum m n xs head_length) (then-assoc _ _ _)
 
-  pub payload-stop : (r : Refusal) → links_verdict m xs e head_length ≡ Refused r → rest_verdict (count_at xs) xs e head_length ≡ Refused r
+  pub payload-stop : (r : Refusal) → links_verdict m xs e head_length ≡ Err r → rest_verdict (count_at xs) xs e head_length ≡ Err r
   payload-stop r v = whole ∙ refused-then _ _ r v
 
   pub payload-rest : links_verdict m xs e head_length ≡ Fine → rest_verdict (count_at xs) xs e head_length ≡ rest_verdict n xs e (after m xs head_length)
@@ -118,7 +114,7 @@ module _ (xs : List ℕ) (e m n : ℕ) (is : m + n ≡ count_at xs) where
   loop-place = rw (← is) (sym (after-sum m n xs head_length))
 
 module _ (n : ℕ) (xs : List ℕ) (e p : ℕ) where
-  pub rest-stop : (r : Refusal) → links_verdict n xs e p ≡ Refused r → rest_verdict n xs e p ≡ Refused r
+  pub rest-stop : (r : Refusal) → links_verdict n xs e p ≡ Err r → rest_verdict n xs e p ≡ Err r
   unfolding rest_verdict
   rest-stop r v = refused-then _ _ r v
 
@@ -144,22 +140,19 @@ pub record SpanOf (xs : List ℕ) (k p q : ℕ) : Type 0 where
   pub start : link_place xs k ≡ p
   pub end : block_end xs (link_place xs k) ≡ q
 
-pub span-known : (xs : List ℕ) (k p q : ℕ) → k < count_at xs → link_span xs k ≡ span.At p q → SpanOf xs k p q
+pub span-known : (xs : List ℕ) (k p q : ℕ) → k < count_at xs → link_span xs k ≡ some_span p q → SpanOf xs k p q
 unfolding span_by
 span-known xs k p q h e =
     let m : min k (count_at xs) ≡ k = omega arith in
     let n : min (k + 1) (count_at xs) ≡ k + 1 = omega arith in
     both (rw (le-leb k (count_at xs) (omega arith), m, n) at e)
   where
-    both : span.At (link_place xs k) (link_place xs (k + 1)) ≡ span.At p q → SpanOf xs k p q
-    both f = record { start = cc; end = sym (after_next k xs head_length) ∙ last f }
-      where
-        last : span.At (link_place xs k) (link_place xs (k + 1)) ≡ span.At p q → link_place xs (k + 1) ≡ q
-        last g = cc
+    both : some_span (link_place xs k) (link_place xs (k + 1)) ≡ some_span p q → SpanOf xs k p q
+    both f = let same = some-same _ _ f in record { start = ap (λ s. s.start) same; end = sym (after_next k xs head_length) ∙ ap (λ s. s.end) same }
 
-pub span-absent : (xs : List ℕ) (k : ℕ) → link_span xs k ≡ span.NoSuchLink → k < count_at xs → ⊥
+pub span-absent : (xs : List ℕ) (k : ℕ) → link_span xs k ≡ None → k < count_at xs → ⊥
 unfolding span_by
 span-absent xs k e h = absent (rw (le-leb k (count_at xs) (omega arith)) at e)
   where
-    absent : {a b : ℕ} → span.At a b ≡ span.NoSuchLink → ⊥
+    absent : {a b : ℕ} → some_span a b ≡ None → ⊥
     absent f = let z : ◌≡◌ {A = ℕ} 0 1 = cc in omega arith

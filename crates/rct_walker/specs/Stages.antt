@@ -1,18 +1,19 @@
 -- What the walk's own stages answer: nothing that a public contract cites.
 -- Assumes nothing.
-use Rattle.std.specs.Prelude.{ℕ, List}
-use Rattle.wire.specs.Verdict.{◌▷◌}
-use Rattle.wire.specs.declared.verdict.Verdict.{Verdict}
-use Rattle.wire.specs.declared.verdict.Verdict.TheVariants.{Fine, Refused}
+use Rattle.std.specs.Prelude.{ℕ, List, Err, Ok, Result}
+use Rattle.wire.specs.Verdict.{◌▷◌, Verdict}
 use Rattle.rct.specs.Reading.{count_at, after, loop_place, links_verdict, loop_verdict}
 use Rattle.rct_walker.specs.Places.{link_span}
 use Rattle.rct_walker.specs.declared.RctPlaces.{RctPlaces}
 use Rattle.rct_walker.specs.declared.walk.Spanned.{Spanned}
-use Rattle.rct_walker.specs.declared.walk.Spanned.TheVariants as spot
+use Rattle.wire.specs.declared.verdict.Refusal.{Refusal}
 
-unfoldable pub spanned : Verdict → ℕ → ℕ → Spanned
-spanned Fine p q = spot.At p q
-spanned (Refused r) p q = spot.Refused r
+abbrev pub found_span : ℕ → ℕ → Result Spanned Refusal
+found_span p q = Ok (record { start = p; end = q })
+
+unfoldable pub spanned : Verdict → ℕ → ℕ → Result Spanned Refusal
+spanned (Ok _) p q = found_span p q
+spanned (Err r) p q = Err r
 
 -- n links from p on, then the loop
 unfoldable pub rest_verdict : ℕ → List ℕ → ℕ → ℕ → Verdict

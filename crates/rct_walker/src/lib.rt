@@ -1,15 +1,13 @@
 // Walking over a related content section, by what a reading demands: the places of its links and of its loop.
 #![tactic(auto)]
 
-use wire::verdict::Refusal;
-
 pub mod walk;
 
 // Where the entry of a link starts and ends. At the number of links it is the empty span where the next one would go.
 #[derive(Drop)]
-pub enum LinkSpan {
-    At { start: usize, end: usize },
-    NoSuchLink,
+pub struct LinkSpan {
+    pub start: usize,
+    pub end: usize,
 }
 
 // The bytes of the section, the number of its links, the span of the one that was asked for, and the place of its loop.
@@ -17,24 +15,15 @@ pub enum LinkSpan {
 #[derive(Drop)]
 pub struct RctPlaces {
     pub total: usize,
-    pub link: LinkSpan,
+    pub link: Option<LinkSpan>,
     pub count: usize,
     pub loop_at: usize,
 }
 
 // Of the whole section: its bytes, the number of its links, and the place of its loop.
 #[derive(Drop)]
-pub enum RctLoop {
-    At {
-        total: usize,
-        count: usize,
-        loop_at: usize,
-    },
-    Refused(Refusal),
-}
-
-#[derive(Drop)]
-pub enum RctWalked {
-    Read(RctPlaces),
-    Refused(Refusal),
+pub struct RctLoop {
+    pub total: usize,
+    pub count: usize,
+    pub loop_at: usize,
 }

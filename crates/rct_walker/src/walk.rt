@@ -9,60 +9,42 @@ ghost use Rattle.rct_blocks.specs.Ends.{end_of};
 ghost use Rattle.rct_walker.specs.Places.{span_by, places_at, walked, loop_found};
 ghost use Rattle.rct_walker.specs.Stages.{spanned, rest_verdict, places_in};
 
-use crate::{LinkSpan, RctLoop, RctPlaces, RctWalked};
+use crate::{LinkSpan, RctLoop, RctPlaces};
 use frame::Demands;
 use length_field::LengthField;
 use rct::RctHeader;
-use wire::verdict::{Reached, Refusal, Verdict};
+use wire::verdict::Refusal;
 
 // Over the entry at a place, its body checked: refusals 4 to 16.
-fn past_entry(payload: &[u8], at: u16) -> Reached
+fn past_entry(payload: &[u8], at: u16) -> Result<usize, Refusal>
     ensures { result ≡ reached (entry_verdict payload.now (end_of payload.now) at) (block_end payload.now at) }
 {
-    let end = rct_blocks::past_entry_length(payload, at);
-    match end {
-        Reached::At(next) => {
-            let start = (at as usize) + LengthField::BYTES;
-            let v = link_walker::check_body(&payload[start..next]);
-            match v {
-                Verdict::Fine => Reached::At(next),
-                Verdict::Refused(r) => Reached::Refused(r),
-            }
-        }
-        Reached::Refused(r) => Reached::Refused(r),
-    }
+    let next = rct_blocks::past_entry_length(payload, at)?;
+    let start = (at as usize) + LengthField::BYTES;
+    link_walker::check_body(&payload[start..next])?;
+    Ok(next)
 }
 
 // Over `n` links, the first of which stands at `at`.
-fn past_links(payload: &[u8], at: u16, n: usize) -> Reached
+fn past_links(payload: &[u8], at: u16, n: usize) -> Result<usize, Refusal>
     requires { at ≤ end_of payload.now }
     ensures { result ≡ reached (links_verdict n payload.now (end_of payload.now) at) (after n payload.now at) }
 {
     let mut p = at as usize;
-    let mut i: usize = 0;
-    while i < n {
-        let step = past_entry(payload, p as u16);
-        match step {
-            Reached::At(next) => {
-                p = next;
-                i += 1;
-            }
-            Reached::Refused(r) => {
-                return Reached::Refused(r);
-            }
-        }
+    for _ in 0..n {
+        p = past_entry(payload, p as u16)?;
     }
-    Reached::At(p)
+    Ok(p)
 }
 
 // The same where there may be none: the loop and its answer cost more than all else that an empty section does. The slice that
 // is handed on is made anew, so that it is stored only where there are links.
-fn past_any_links(payload: &[u8], at: u16, n: usize) -> Reached
+fn past_any_links(payload: &[u8], at: u16, n: usize) -> Result<usize, Refusal>
     requires { at ≤ end_of payload.now }
     ensures { result ≡ reached (links_verdict n payload.now (end_of payload.now) at) (after n payload.now at) }
 {
     if n == 0 {
-        return Reached::At(at as usize);
+        return Ok(at as usize);
     }
     past_links(&payload[..], at, n)
 }
@@ -75,117 +57,80 @@ fn smaller(a: usize, b: usize) -> usize
 
 // Where a link starts and ends.
 #[derive(Drop)]
-enum Spanned {
-    At { start: usize, end: usize },
-    Refused(Refusal),
+struct Spanned {
+    start: usize,
+    end: usize,
 }
 
 // Over the links `before` a link, and over as many more as `own` says: that one, or none where there is none.
-fn past_link(payload: &[u8], before: usize, own: usize) -> Spanned
+fn past_link(payload: &[u8], before: usize, own: usize) -> Result<Spanned, Refusal>
     requires { head_length ≤ end_of payload.now }
     ensures { result ≡ spanned (links_verdict (before + own) payload.now (end_of payload.now) head_length) (link_place payload.now before) (link_place payload.now (before + own)) }
 {
-    let first = past_links(payload, RctHeader::HEAD as u16, before);
-    match first {
-        Reached::At(start) => {
-            let last = past_links(payload, start as u16, own);
-            match last {
-                Reached::At(end) => Spanned::At { start, end },
-                Reached::Refused(r) => Spanned::Refused(r),
-            }
-        }
-        Reached::Refused(r) => Spanned::Refused(r),
-    }
+    let start = past_links(payload, RctHeader::HEAD as u16, before)?;
+    let end = past_links(payload, start as u16, own)?;
+    Ok(Spanned { start, end })
 }
 
 // The span of link `number` of `count`.
-fn link_span(count: usize, number: usize, start: usize, end: usize) -> LinkSpan
+fn link_span(count: usize, number: usize, start: usize, end: usize) -> Option<LinkSpan>
     ensures { result ≡ span_by count number start end }
 {
     if number <= count {
-        LinkSpan::At { start, end }
+        Some(LinkSpan { start, end })
     } else {
-        LinkSpan::NoSuchLink
+        None
     }
 }
 
 // Over the links that are left, the first of which stands at `at`, and over the loop, whose place is answered.
-fn past_rest(payload: &[u8], at: u16, left: usize) -> Reached
+fn past_rest(payload: &[u8], at: u16, left: usize) -> Result<usize, Refusal>
     requires { at ≤ end_of payload.now }
     ensures { result ≡ reached (rest_verdict left payload.now (end_of payload.now) at) (after left payload.now at) }
 {
-    let links = past_any_links(payload, at, left);
-    match links {
-        Reached::At(loop_at) => {
-            let v = rct_blocks::check_loop(payload, loop_at as u16);
-            match v {
-                Verdict::Fine => Reached::At(loop_at),
-                Verdict::Refused(r) => Reached::Refused(r),
-            }
-        }
-        Reached::Refused(r) => Reached::Refused(r),
-    }
+    let loop_at = past_any_links(payload, at, left)?;
+    rct_blocks::check_loop(payload, loop_at as u16)?;
+    Ok(loop_at)
 }
 
 // The links and the loop of the payload of a section of `total` bytes.
-fn past_payload(payload: &[u8], total: usize, number: usize) -> RctWalked
+fn past_payload(payload: &[u8], total: usize, number: usize) -> Result<RctPlaces, Refusal>
     requires { head_length ≤ end_of payload.now }
     ensures { result ≡ walked (rest_verdict (count_at payload.now) payload.now (end_of payload.now) head_length) (places_in total payload.now number) }
 {
     let count = wire::wide(payload[RctHeader::COUNT_AT]);
     let before = smaller(number, count);
     let own = smaller(count - before, 1);
-    let link = past_link(payload, before, own);
-    match link {
-        Spanned::At { start, end } => {
-            let rest = past_rest(payload, end as u16, count - before - own);
-            match rest {
-                Reached::At(loop_at) => RctWalked::Read(RctPlaces {
-                    total,
-                    link: link_span(count, number, start, end),
-                    count,
-                    loop_at,
-                }),
-                Reached::Refused(r) => RctWalked::Refused(r),
-            }
-        }
-        Spanned::Refused(r) => RctWalked::Refused(r),
-    }
+    let link = past_link(payload, before, own)?;
+    let loop_at = past_rest(payload, link.end as u16, count - before - own)?;
+    Ok(RctPlaces {
+        total,
+        link: link_span(count, number, link.start, link.end),
+        count,
+        loop_at,
+    })
 }
 
 // The whole section, by what a reading demands: its places.
-pub fn read_places(s: &[u8], demands: Demands, number: usize) -> RctWalked
+pub fn read_places(s: &[u8], demands: Demands, number: usize) -> Result<RctPlaces, Refusal>
     ensures { result ≡ walked (reading demands s.now) (places_at s.now number) }
 {
-    let front = frame_opening::open(s, RctHeader::table(), demands);
-    match front {
-        Reached::At(total) => {
-            let end = frame::payload_end(total);
-            past_payload(&s[..end], total, number)
-        }
-        Reached::Refused(r) => RctWalked::Refused(r),
-    }
+    let total = frame_opening::open(s, RctHeader::table(), demands)?;
+    let end = frame::payload_end(total);
+    past_payload(&s[..end], total, number)
 }
 
 // The whole section, by what a reading demands: the place of its loop.
-pub fn read_loop(s: &[u8], demands: Demands) -> RctLoop
+pub fn read_loop(s: &[u8], demands: Demands) -> Result<RctLoop, Refusal>
     ensures { result ≡ loop_found (reading demands s.now) s.now }
 {
-    let front = frame_opening::open(s, RctHeader::table(), demands);
-    match front {
-        Reached::At(total) => {
-            let end = frame::payload_end(total);
-            let links = wire::wide(s[RctHeader::COUNT_AT]);
-            let rest = past_rest(&s[..end], RctHeader::HEAD as u16, links);
-            match rest {
-                Reached::At(loop_at) => RctLoop::At {
-                    total,
-                    count: links,
-                    loop_at,
-                },
-                Reached::Refused(r) => RctLoop::Refused(r),
-            }
-        }
-        Reached::Refused(r) => RctLoop::Refused(r),
-    }
+    let total = frame_opening::open(s, RctHeader::table(), demands)?;
+    let end = frame::payload_end(total);
+    let links = wire::wide(s[RctHeader::COUNT_AT]);
+    let loop_at = past_rest(&s[..end], RctHeader::HEAD as u16, links)?;
+    Ok(RctLoop {
+        total,
+        count: links,
+        loop_at,
+    })
 }

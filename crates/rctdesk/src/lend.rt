@@ -1,125 +1,114 @@
 // The calls that lend the buffer and the text: buf and text.
 use console::Short;
+use console::lines::char_at;
 use console::print::say;
-use script::calls::{SET, call_of, is_understood};
+use script::calls::{SET, call_of};
 use script::read::read_short;
-use script::scan::{Scan, behind, byte_at};
+use script::scan::{Fault, Scan};
 use std::io;
 
 // The most bytes that a buffer or a text has.
 pub const MOST: u16 = 8192;
 
-const CALLS: [Short; 2] = [*b"buf_____________________", *b"text____________________"];
+// What the calls lend to.
+#[derive(Clone, Copy)]
+pub enum Lent {
+    Buf,
+    Text,
+}
 
-// What the calls lend to, by their numbers.
-pub const BUF: usize = 1;
-
-pub const TEXT: usize = 2;
+const CALLS: [(Short, Lent); 2] = [
+    (*b"buf_____________________", Lent::Buf),
+    (*b"text____________________", Lent::Text),
+];
 
 // What they say.
 const COUNT: Short = *b"#_______________________";
 
 const BYTE: Short = *b" %______________________";
 
-const SPACE: Short = *b" _______________________";
-
-// What a line lends: into the buffer, the text or neither, how many bytes, as the scan says, and what they are: one byte
-// over and over, or those in digits from a place of the line on.
+// The bytes of a number of them: one over and over, or those in digits from a place of the line on.
 #[derive(Clone, Copy)]
-pub struct Lending {
-    pub into: usize,
-    pub scan: Scan,
-    pub is_filled: bool,
-    pub byte: u8,
-    pub from: usize,
+enum Bytes<'a> {
+    Same(u8),
+    Digits(Scan<'a>),
+}
+
+// How many bytes a line lends, and what they are.
+#[derive(Clone, Copy)]
+pub struct Lending<'a> {
+    count: u16,
+    bytes: Bytes<'a>,
 }
 
 // `HEX`, which may be empty.
-fn hex_lending(line: &[u8], s: Scan, into: usize) -> Lending {
-    Lending {
-        into,
-        scan: s.bytes(line, MOST),
-        is_filled: false,
-        byte: 0,
-        from: s.at,
-    }
+fn read_hex<'a>(scan: Scan<'a>) -> Result<Lending<'a>, Fault> {
+    let mut behind = scan;
+    let count = behind.bytes(MOST)?;
+    Ok(Lending {
+        count,
+        bytes: Bytes::Digits(scan),
+    })
 }
 
 // `N BYTE`, the place being past N.
-fn filled_lending(line: &[u8], s: Scan) -> Lending {
-    let byte = read_short(line, s, BYTE);
-    let scan = byte.scan.end(line);
-    Lending {
-        into: BUF,
-        scan: scan.counted(s.value, MOST),
-        is_filled: true,
-        byte: (byte.numbers.0 % 256) as u8,
-        from: 0,
+fn read_filled<'a>(mut scan: Scan<'a>, count: u16) -> Result<Lending<'a>, Fault> {
+    let numbers = read_short(&mut scan, BYTE)?;
+    scan.end()?;
+    scan.counted(count, MOST)?;
+    Ok(Lending {
+        count,
+        bytes: Bytes::Same((numbers[0] % 256) as u8),
+    })
+}
+
+// A number before a space is no HEX, whether it can be read or not.
+fn read_buf<'a>(scan: Scan<'a>) -> Result<Lending<'a>, Fault> {
+    let mut behind = scan;
+    match read_short(&mut behind, COUNT) {
+        Ok(numbers) if behind.is_at(b' ') => read_filled(behind, numbers[0]),
+        Err(fault) if char_at(scan.line, fault.at) == b' ' => Err(fault),
+        _ => read_hex(scan),
     }
 }
 
-// A number before a space is no HEX.
-fn buf_lending(line: &[u8], s: Scan) -> Lending {
-    let count = read_short(line, s, COUNT).scan;
-    if count.is_at(line, b' ') {
-        return filled_lending(line, count);
+// What a call lends that has this behind its name.
+pub fn read_lending<'a>(lent: Lent, mut scan: Scan<'a>) -> Result<Lending<'a>, Fault> {
+    if scan.is_at(b' ') {
+        scan.pass();
     }
-    hex_lending(line, s, BUF)
-}
-
-// Past the space before what a call says besides its name, if it says anything.
-fn rest(line: &[u8], s: Scan) -> Scan {
-    if s.is_at(line, b' ') {
-        return read_short(line, s, SPACE).scan;
-    }
-    s
-}
-
-// What a line lends.
-pub fn read_lending(line: &[u8], line_number: usize) -> Lending {
-    let call = call_of(line, line_number, &CALLS);
-    let s = rest(line, call.scan);
-    let number = call.number;
-    match number {
-        BUF => buf_lending(line, s),
-        _ => hex_lending(line, s, number),
+    match lent {
+        Lent::Buf => read_buf(scan),
+        Lent::Text => read_hex(scan),
     }
 }
 
-impl Lending {
-    // The byte of a number.
-    fn byte_of(self, line: &[u8], i: usize) -> u8 {
-        if self.is_filled {
-            return self.byte;
-        }
-        byte_at(line, behind(self.from, i))
-    }
+// What a line lends to, if it lends, and the place behind the call's name.
+pub fn lending_call<'a>(line: &'a [u8]) -> Option<(Lent, Scan<'a>)> {
+    call_of(line, &CALLS)
+}
 
+impl<'a> Lending<'a> {
     // Lends to `b`, and answers how much of it is lent now.
-    pub fn lend(
-        self,
-        rt: &impl Print,
-        line: &[u8],
-        b: &mut [u8],
-        before: usize,
-    ) -> io::Result<usize> {
-        let scan = self.scan;
-        if !is_understood(rt, line, scan)? {
-            return Ok(before);
-        }
+    pub fn lend(self, rt: &impl Print, b: &mut [u8]) -> io::Result<usize> {
         say(rt, SET)?;
-        let count = scan.value as usize;
+        let count = self.count as usize;
         if count <= b.len() {
-            self.store(line, &mut b[0..count]);
+            self.store(&mut b[..count]);
         }
         Ok(count)
     }
 
-    fn store(self, line: &[u8], b: &mut [u8]) {
-        let mut i: usize = 0;
-        while i < b.len() {
-            b[i] = self.byte_of(line, i);
-            i += 1;
+    fn store(self, b: &mut [u8]) {
+        match self.bytes {
+            Bytes::Same(byte) => b.fill(byte),
+            Bytes::Digits(scan) => store_digits(scan, b),
         }
+    }
+}
+
+fn store_digits(scan: Scan<'_>, b: &mut [u8]) {
+    for (i, place) in b.iter_mut().enumerate() {
+        *place = scan.byte(i);
     }
 }

@@ -12,28 +12,15 @@ pub fn without_return(line: &[u8], kept: usize) -> usize {
 }
 
 fn is_blank(c: u8) -> bool {
-    match c {
-        b' ' | b'\t' => true,
-        _ => false,
-    }
+    matches!(c, b' ' | b'\t')
 }
 
-// The place of the first character that is not blank, or the line's end.
-fn first_word(line: &[u8]) -> usize {
-    let mut at: usize = 0;
-    while at < line.len() {
-        if !is_blank(line[at]) {
-            return at;
-        }
-        at += 1;
-    }
-    line.len()
-}
-
-// Whether a line is passed over: it is empty or a comment.
+// Whether a line is passed over: it is empty, but for blanks, or a comment.
 pub fn says_nothing(line: &[u8]) -> bool {
-    match char_at(line, first_word(line)) {
-        b'\n' | b'#' => true,
-        _ => false,
+    for c in line {
+        if !is_blank(*c) {
+            return matches!(*c, b'\n' | b'#');
+        }
     }
+    true
 }

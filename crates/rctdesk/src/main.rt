@@ -7,10 +7,10 @@ mod line;
 use console::Short;
 use console::lines::{Unread, read_line};
 use console::print::{end_line, say};
-use lend::{MOST, read_lending};
+use lend::{Lent, MOST, lending_call, read_lending};
 use line::{says_nothing, without_return};
 use rct_index::RctIndex;
-use script::calls::put_error;
+use script::calls::{Stop, put_error, put_fault};
 use spans::{Span, handed};
 use std::io;
 use std::io::Read;
@@ -60,24 +60,23 @@ fn dispatch(
     b: &mut [u8],
     text: &[u8],
     desk: Desk,
-) -> io::Result<RctIndex> {
+) -> Result<RctIndex, Stop> {
     let index = desk.index;
-    let number = desk.line_number;
-    if desk_reads::carry_out(rt, line, number, &b[..])? {
+    if desk_reads::carry_out(rt, line, &b[..])? {
         return Ok(index);
     }
-    if desk_rnt::carry_out(rt, line, number, &b[..])? {
+    if desk_rnt::carry_out(rt, line, &b[..])? {
         return Ok(index);
     }
-    if desk_edits::carry_out(rt, line, number, b, text)? {
+    if desk_edits::carry_out(rt, line, b, text)? {
         return Ok(index);
     }
-    let kept = desk_index::carry_out(rt, line, number, b, text, index)?;
-    if !kept.is_mine {
-        put_error(rt, number)?;
-        say(rt, UNKNOWN)?;
+    if let Some(kept) = desk_index::carry_out(rt, line, b, text, index)? {
+        return Ok(kept);
     }
-    Ok(kept.index)
+    put_error(rt, desk.line_number)?;
+    say(rt, UNKNOWN)?;
+    Ok(index)
 }
 
 // A call on what is lent, of which there is never more than the arrays hold.
@@ -87,36 +86,56 @@ fn on_lent(
     buf: &mut [u8],
     text: &[u8],
     desk: Desk,
-) -> io::Result<RctIndex> {
+) -> Result<RctIndex, Stop> {
     let b = desk.buf;
     let t = desk.text;
-    if b <= buf.len() {
-        if t <= text.len() {
-            return dispatch(rt, line, &mut buf[0..b], &text[0..t], desk);
-        }
+    if b <= buf.len() && t <= text.len() {
+        return dispatch(rt, line, &mut buf[..b], &text[..t], desk);
     }
     Ok(desk.index)
 }
 
-// Carries out the call that a line has, and answers it.
-fn answer(
+// Carries out the call that a line has.
+fn carry_out(
     rt: &impl Print,
     line: &[u8],
     buf: &mut [u8],
     text: &mut [u8],
     mut desk: Desk,
-) -> io::Result<Desk> {
-    let lending = read_lending(line, desk.line_number);
-    let into = lending.into;
-    match into {
-        lend::BUF => desk.buf = lending.lend(rt, line, buf, desk.buf)?,
-        lend::TEXT => desk.text = lending.lend(rt, line, text, desk.text)?,
-        _ => {
+) -> Result<Desk, Stop> {
+    match lending_call(line) {
+        Some((Lent::Buf, scan)) => {
+            let lending = read_lending(Lent::Buf, scan)?;
+            desk.buf = lending.lend(rt, buf)?;
+        }
+        Some((Lent::Text, scan)) => {
+            let lending = read_lending(Lent::Text, scan)?;
+            desk.text = lending.lend(rt, text)?;
+        }
+        None => {
             let index = on_lent(rt, line, buf, &text[..], desk)?;
             desk.index = index;
         }
     }
     Ok(desk)
+}
+
+// The same, with the answer to a line that something is wrong with, which leaves the desk as it is.
+fn answer(
+    rt: &impl Print,
+    line: &[u8],
+    buf: &mut [u8],
+    text: &mut [u8],
+    desk: Desk,
+) -> io::Result<Desk> {
+    match carry_out(rt, line, buf, text, desk) {
+        Ok(carried) => Ok(carried),
+        Err(Stop::Line(fault)) => {
+            put_fault(rt, desk.line_number, fault)?;
+            Ok(desk)
+        }
+        Err(Stop::Answer(error)) => Err(error),
+    }
 }
 
 // A line of which so many characters count: one that says nothing has no answer.
@@ -156,10 +175,9 @@ fn run(
     let mut desk = start;
     let mut unread = Unread::nothing();
     for _ in 0..u64::MAX {
-        let read = read_line(input, block, line, unread)?;
-        if read.is_over {
+        let Some(read) = read_line(input, block, line, unread)? else {
             return Ok(());
-        }
+        };
         let length = without_return(&line[..], read.kept);
         desk = take(rt, &line[..], length, buf, text, desk.at_next_line())?;
         unread = read.unread;

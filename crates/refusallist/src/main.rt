@@ -8,7 +8,7 @@ mod table;
 use console::Short;
 use console::input::read_full;
 use console::print::{end_line, put_number, say};
-use field::{Field, Listed};
+use field::Field;
 use rows::{FIELD_COUNT, FIELD_NAMES, NUMBER_COUNT, NUMBER_NAMES, field_at, name_at, number_at};
 use std::fs::File;
 use std::io;
@@ -54,8 +54,8 @@ fn number_row(rt: &impl Print, page: &[u8], at: usize, i: usize) -> io::Result<S
 fn is_listed(field: Field) -> bool {
     let listed = Field::of_rank(field.rank);
     match listed {
-        Listed::Known(known) => (known.rank == field.rank) & (known.widest == field.widest),
-        Listed::Nothing => false,
+        Some(known) => (known.rank == field.rank) & (known.widest == field.widest),
+        None => false,
     }
 }
 

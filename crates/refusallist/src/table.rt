@@ -19,31 +19,22 @@ fn next(at: usize) -> usize {
 }
 
 fn is_digit(c: u8) -> bool {
-    if c < b'0' {
-        return false;
-    }
-    c <= b'9'
+    matches!(c, b'0'..=b'9')
 }
 
 // Whether a row of one of the two tables starts behind the newline at this place: no other row starts with a digit.
 fn is_row(page: &[u8], at: usize) -> bool {
-    if char_at(page, at) != b'\n' {
-        return false;
-    }
-    if char_at(page, next(at)) != b'|' {
-        return false;
-    }
-    is_digit(char_at(page, next(next(next(at)))))
+    char_at(page, at) == b'\n'
+        && char_at(page, next(at)) == b'|'
+        && is_digit(char_at(page, next(next(next(at)))))
 }
 
 // The place of the next row, or the page's end.
 pub fn next_row(page: &[u8], from: usize) -> usize {
-    let mut at = from;
-    while at < page.len() {
+    for at in from..page.len() {
         if is_row(page, at) {
             return next(at);
         }
-        at += 1;
     }
     page.len()
 }
@@ -61,10 +52,8 @@ fn past(page: &[u8], seen: Seen, c: u8) -> Seen {
 
 fn past_all(page: &[u8], from: Seen, piece: &[u8]) -> Seen {
     let mut seen = from;
-    let mut i: usize = 0;
-    while i < piece.len() {
-        seen = past(page, seen, piece[i]);
-        i += 1;
+    for c in piece {
+        seen = past(page, seen, *c);
     }
     seen
 }

@@ -9,10 +9,8 @@ use lib.Dec.{eqb}
 use Rattle.length_field.specs.Lengths.{long_row, last_rows}
 use Rattle.wire.specs.Choice.{pick}
 use Rattle.wire.specs.Refusals.{too_short, wrong_length, wrong_crc, section_too_long, no_syntax_indicator}
-use Rattle.wire.specs.Verdict.{reached, ◌▷◌}
-use Rattle.wire.specs.declared.verdict.Reached.TheVariants as reach
+use Rattle.wire.specs.Verdict.{reached, ◌▷◌, Verdict}
 use Rattle.wire.specs.declared.verdict.Refusal.{Refusal}
-use Rattle.wire.specs.declared.verdict.Verdict.{Verdict}
 use Rattle.wire.proofs.Among.{listed, all_listed, listed_here, listed-behind, listed_more, Among, among-row, among_then}
 use Rattle.wire.proofs.Verdicts.{reached-refused}
 use Rattle.section_header.specs.Checks.{check_header}
@@ -25,6 +23,7 @@ use Rattle.frame.specs.declared.Table.{Table}
 use Rattle.frame.proofs.Listed.{demanded-listed, crc-verdict-listed}
 use Rattle.refusals.specs.FixedList.{fixed_list}
 use Rattle.refusals.proofs.Given.{Given, given}
+use Rattle.std.specs.Prelude.{Err}
 
 -- ---- what is handed in
 
@@ -53,7 +52,7 @@ or-more n m ns ms a e = by (eqb n m) e
     by false h = listed_more ns ms n a h
 
 -- a section of any table: the table's own number for another table, or one of the list
-pub open-given : (t : Table) (d : Demands) (xs : List ℕ) (r : Refusal) → reached (opened t d xs) (total_of xs) ≡ reach.Refused r → listed r.number (t.other ∷ fixed_list) ≡ true
+pub open-given : (t : Table) (d : Demands) (xs : List ℕ) (r : Refusal) → reached (opened t d xs) (total_of xs) ≡ Err r → listed r.number (t.other ∷ fixed_list) ≡ true
 open-given t d xs r e =
     or-more r.number t.other (too_short ∷ wrong_length ∷ no_syntax_indicator ∷ section_too_long ∷ []) fixed_list refl
     (demanded-listed t d xs r (reached-refused _ _ r e))

@@ -5,9 +5,9 @@ use mathlib.Core.Path.{◌≡◌, sym, ap, ◌∙◌}
 use mathlib.Core.Bool.{true, false, false≢true}
 use mathlib.Core.List.{List}
 use Rattle.wire.specs.declared.verdict.Refusal.{Refusal}
-use Rattle.wire.specs.declared.verdict.Verdict.{Verdict}
 use Rattle.wire.proofs.Among.{listed, all_listed, Among, listed_more, among-more, Never, among-never}
 use Rattle.refusals.specs.FixedList.{fixed_list}
+use Rattle.wire.specs.Verdict.{Verdict}
 
 -- of a verdict, and of a refusal
 abbrev pub Given : Verdict → Type 0

@@ -10,25 +10,20 @@ use native.Mathlib.Omega.{arith}
 use lib.ListN.{length, drop, replicate}
 use Rattle.wire.specs.Lists.{Bytes}
 use Rattle.length_field.specs.Lengths.{length_bytes, block_bytes, block_rows, last_verdict}
-use Rattle.wire.specs.Verdict.{bad, refuse, ◌▷◌}
+use Rattle.wire.specs.Verdict.{bad, refuse, ◌▷◌, verdict_of}
 use Rattle.wire.proofs.Lists.{bytes-append}
 use Rattle.field.specs.Fields.{check_field}
 use Rattle.crc.specs.Crc.{clock, crc_of}
 use Rattle.descriptors.specs.Reading.{told, descriptors_of, cut_verdict, counted}
-use Rattle.descriptors.specs.declared.DescriptorsCounted.TheVariants as count
 use Rattle.locator.specs.Checks as locator-checks
 use Rattle.locator.specs.Reading.{read_locator, locator_verdict}
 use Rattle.locator.specs.declared.DvbLocatorIdentifier.TheVariants as identifier
 use Rattle.locator.specs.declared.DvbLocatorService.TheVariants as service
-use Rattle.locator.specs.declared.DvbLocatorWindows.TheVariants as windows
 use Rattle.link.specs.Reading.{uri_verdict, locator_rows, count_verdict, item_verdict, items_verdict, front_verdict, rest_verdict, body_verdict}
 use Rattle.link.specs.Records.{no_item}
 use Rattle.link.specs.Answers.{link_answer}
 use Rattle.link.specs.Syntax.{Link, field_bytes, uri_bytes, locator_part, items_bytes, link_body}
 use Rattle.link.specs.declared.LinkInfo.{LinkInfo}
-use Rattle.link.specs.declared.LinkLocator.{LinkLocator}
-use Rattle.link.specs.declared.LinkLocator.TheVariants as locator
-use Rattle.link.specs.declared.MediaUri.TheVariants as uri
 use Rattle.link.specs.declared.Range.{Range}
 use Rattle.link_draft.specs.Checks as draft
 use Rattle.section_header.specs.Checks.{check_header}
@@ -49,21 +44,22 @@ use Rattle.rct_edit.proofs.Order.{appending-count}
 use Rattle.rnt.specs.Reading as rnt
 use Rattle.rnt.proofs.Rows as rnt-rows
 use Rattle.rnt_reader.specs.Sections as rnt-section
-use Rattle.rnt_reader.specs.declared.RntRead.TheVariants as rnt-read
 use Rattle.refusals.specs.FixedList.{fixed_list}
 use Rattle.refusals.proofs.Numbers.{from}
+use Rattle.link.specs.Options.{LinkLocator}
+use Rattle.std.specs.Prelude.{Err, None, Some}
 
 -- a call that answers n, with the figures f and g
 pub data Received (n : ℕ) : Type 0 where
-  read-section : (xs : List ℕ) (f g : ℕ) → (rct-section.section_read (rct.plain xs) xs).verdict ≡ bad n f g → Received n
-  check-section : (xs : List ℕ) (f g : ℕ) → (rct-section.section_read (rct.checked xs) xs).verdict ≡ bad n f g → Received n
-  read-link : (xs : List ℕ) (k f g : ℕ) → (numbered_link xs k).verdict ≡ bad n f g → Received n
+  read-section : (xs : List ℕ) (f g : ℕ) → rct-section.section_read (rct.plain xs) xs ≡ Err (record { number = n; first = f; second = g }) → Received n
+  check-section : (xs : List ℕ) (f g : ℕ) → rct-section.section_read (rct.checked xs) xs ≡ Err (record { number = n; first = f; second = g }) → Received n
+  read-link : (xs : List ℕ) (k f g : ℕ) → verdict_of (numbered_link xs k) ≡ bad n f g → Received n
   check-link : (t : List ℕ) (i : LinkInfo) (f g : ℕ) → (draft.link_checked t i).verdict ≡ bad n f g → Received n
   make : (xs : List ℕ) (h : RctHeader) (beside : ℕ) (t : List ℕ) (d : Range) (f g : ℕ) → (making xs h beside t d).verdict ≡ bad n f g → Received n
   append : (xs t : List ℕ) (i : LinkInfo) (f g : ℕ) → (appending xs t i).verdict ≡ bad n f g → Received n
   count-descriptors : (xs : List ℕ) (start f g : ℕ)
-      → counted (cut_verdict start (drop start xs)) (length (descriptors_of (drop start xs))) ≡ count.Refused (record { number = n; first = f; second = g }) → Received n
-  read-rnt : (xs : List ℕ) (f g : ℕ) → rnt-section.section_read (rnt.plain xs) xs ≡ rnt-read.Refused (record { number = n; first = f; second = g }) → Received n
+      → counted (cut_verdict start (drop start xs)) (length (descriptors_of (drop start xs))) ≡ Err (record { number = n; first = f; second = g }) → Received n
+  read-rnt : (xs : List ℕ) (f g : ℕ) → rnt-section.section_read (rnt.plain xs) xs ≡ Err (record { number = n; first = f; second = g }) → Received n
 
 infixr 50 ◌&◌
 pub data AllReceived : List ℕ → Type 0 where
@@ -75,7 +71,7 @@ pub data AllReceived : List ℕ → Type 0 where
 module _ {n f g : ℕ} (xs : List ℕ) where
   checked-row : rct.checked xs ≡ bad n f g → Received n
   unfolding rct-section.section_read
-  checked-row e = check-section xs f g (ap (λ v. (rct-section.section_read v xs).verdict) e)
+  checked-row e = check-section xs f g (ap (λ v. rct-section.section_read v xs) e)
 
   rnt-row : rnt.plain xs ≡ bad n f g → Received n
   unfolding rnt-section.section_read
@@ -129,7 +125,7 @@ record_of type related place start =
             term_id = 0;
             group_id = 0;
             precedence = 0;
-            media_uri = uri.Absent;
+            media_uri = None;
             dvb_binary_locator = place;
             reserved_number_items = 3;
             number_items = 0;
@@ -143,7 +139,7 @@ record_of type related place start =
 -- a reliable time, without the windows that it takes
 abbrev windowless : LinkLocator
 windowless =
-    locator.Present
+    Some
     (record {
       scheduled_time_reliability = true;
       reserved = 1;
@@ -152,7 +148,7 @@ windowless =
       start_time = 0;
       duration = 0;
       identifier = identifier.None;
-      windows = windows.Absent;
+      windows = None;
     })
 
 -- ---- as many links as there can be
@@ -236,10 +232,10 @@ full-count = refl
 full-bytes : Bytes full_bytes
 full-bytes = bytes-append (sealed full) [] (sealed-bytes checked_demands full (omega arith) full-fits) tt
 
-no_more : (appending full_bytes [] (record_of 3 0 locator.Absent 0)).verdict ≡ bad 30 255 0
+no_more : (appending full_bytes [] (record_of 3 0 None 0)).verdict ≡ bad 30 255 0
 no_more =
     let k = holds-known full full_bytes (sealed-holds full [] full-fits) in
-    (appending-count full_bytes [] (record_of 3 0 locator.Absent 0) full-bytes 255 0).1 (record { section = k.passed; full = full-count; figures = (refl, refl) })
+    (appending-count full_bytes [] (record_of 3 0 None 0) full-bytes 255 0).1 (record { section = k.passed; full = full-count; figures = (refl, refl) })
 
 -- ---- by number
 
@@ -267,13 +263,13 @@ all-received =
     & read-section (rct_of 0 (0xF0 ∷ 0x00 ∷ 0x00 ∷ [])) 1 0 refl
     & check-section (rct_of 0 (0xF0 ∷ 0x00 ∷ [])) 0 0x6E3E21D2 refl
     & read-link (rct_of 0 (0xF0 ∷ 0x00 ∷ [])) 0 0 0 refl
-    & check-link [] (record_of 3 64 locator.Absent 0) 1 64 refl
-    & check-link [] (record_of 1 0 locator.Absent 0) 1 0 refl
+    & check-link [] (record_of 3 64 None 0) 1 64 refl
+    & check-link [] (record_of 1 0 None 0) 1 0 refl
     & check-link [] (record_of 1 0 windowless 0) 0 0 refl
-    & check-link [] (record_of 3 0 locator.Absent 1) 1 0 refl
+    & check-link [] (record_of 3 0 None 1) 1 0 refl
     & above-limit
     & make [] (header_of 0) 15 [] (record { start = 0; length = 0 }) 17 0 refl
-    & append full_bytes [] (record_of 3 0 locator.Absent 0) 255 0 no_more
+    & append full_bytes [] (record_of 3 0 None 0) 255 0 no_more
     & unindicated
     & count-descriptors (0x4D ∷ []) 0 0 1 refl
     & rnt-received

@@ -10,7 +10,6 @@ use Rattle.wire.specs.Lists.{Bytes}
 use Rattle.wire.specs.Numbers.{bytes32}
 use Rattle.length_field.specs.Lengths.{longest, length_bytes, length_at, block_bytes, block_at, block_end, long_row}
 use Rattle.wire.specs.Runs.{each_row, in_order}
-use Rattle.wire.specs.declared.verdict.Verdict.TheVariants.{Fine}
 use Rattle.wire.proofs.Lists.{bytes-append}
 use Rattle.wire.proofs.Words.{bytes32-bytes}
 use Rattle.length_field.proofs.Blocks.{block-length, block-bytes, block_up, BlockRead, block_back, block-rebuild, block-fits}
@@ -30,6 +29,7 @@ use Rattle.rnt.specs.Syntax.{common_place, shortest, rnt, Section, provider_byte
 use Rattle.rnt.specs.Reading.{provider_at, provider_places, section_at, provider_verdict, common_row, payload_verdict, reading, plain, checked}
 use Rattle.rnt.proofs.Head.{head-rebuild, rnt-header-fits, head_bytes_lem, HeadRead, head-back}
 use Rattle.rnt.proofs.Providers.{provider-back, provider-rebuilds, provider-bytes}
+use Rattle.wire.specs.Verdict.{Fine}
 
 -- ---- lengths
 

@@ -10,8 +10,7 @@ use lib.Seq.{take-add, take_at}
 use borrow.Author.Tests.{lt-ltb, le-ltb}
 use Rattle.wire.specs.Lists.{Bytes, part}
 use Rattle.length_field.specs.Lengths.{block_bytes, block_at, block_end, block_need}
-use Rattle.wire.specs.Verdict.{bad, refuse, ◌▷◌}
-use Rattle.wire.specs.declared.verdict.Verdict.TheVariants.{Fine}
+use Rattle.wire.specs.Verdict.{bad, refuse, ◌▷◌, Fine}
 use Rattle.wire.proofs.Lists.{bytes-at, bytes-append, bytes-part, length_part, firsts-part, at-drop-first, drop_past}
 use Rattle.length_field.proofs.Blocks.{block-length, block-bytes, BlockRead, block_back, block-rebuild, block-fits, block-passed, block-pass}
 use Rattle.wire.proofs.Among.{listed, Among, among-row, among_then}

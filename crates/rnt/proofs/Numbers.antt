@@ -8,8 +8,7 @@ use lib.ListN.{length, get_or, length-map}
 use Rattle.length_field.specs.Lengths.{block_end}
 use Rattle.wire.specs.Refusals.{authority_cut}
 use Rattle.wire.specs.Runs.{places_to, each_row}
-use Rattle.wire.specs.Verdict.{counted_row}
-use Rattle.wire.specs.declared.verdict.Verdict.TheVariants.{Fine}
+use Rattle.wire.specs.Verdict.{counted_row, Fine}
 use Rattle.length_field.proofs.Blocks.{block_up}
 use Rattle.wire.proofs.RunLaws.{each_at, told_at, place-first, place-next, place-last}
 use Rattle.wire.proofs.Verdicts.{then-fine, passed-leb}

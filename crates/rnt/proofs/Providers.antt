@@ -10,7 +10,6 @@ use Rattle.wire.specs.Lists.{Bytes, part}
 use Rattle.length_field.specs.Lengths.{length_bytes, length_at, beside_at, BlockFits, block_bytes, block_end}
 use Rattle.wire.specs.Refusals.{provider_cut, provider_too_long, provider_name_cut, provider_descriptors_cut, authority_cut}
 use Rattle.wire.specs.Runs.{each_row, in_order}
-use Rattle.wire.specs.declared.verdict.Verdict.TheVariants.{Fine}
 use Rattle.wire.proofs.Lists.{bytes-append, length_part, drop_past}
 use Rattle.length_field.proofs.Blocks.{length-length_bytes, length-short, beside-narrow, block-length, block-bytes, block_up, BlockRead, block_back, block-rebuild, block-passed, block-pass}
 use Rattle.wire.proofs.RunLaws as runs
@@ -18,6 +17,7 @@ use Rattle.wire.proofs.Verdicts.{then-fine, fine-then}
 use Rattle.rnt.specs.Syntax.{Authority, Provider, named_bytes, authority_named, authority_bytes, info_bytes, entry_of, provider_bytes, AuthorityFits, ProviderFits}
 use Rattle.rnt.specs.Reading.{named_end, named_at, authority_of, authority_at, info_place, authority_places, provider_at, authority_verdict, provider_head, provider_verdict}
 use Rattle.rnt.proofs.Names.{named-up, named-bytes, NamedRead, named_back, NamedRebuilt, named-rebuilt, named-passed, named-pass, authority-fits, bits_back, bits-rebuilt, authority-of-fits}
+use Rattle.wire.specs.Verdict.{Fine}
 
 -- ---- authorities of a provider that ends at e
 

@@ -7,8 +7,7 @@ use mathlib.Core.List.{List, [], ◌∷◌}
 use lib.ListN.{take, replicate}
 use Rattle.length_field.specs.Lengths.{long_row, block_rows}
 use Rattle.wire.specs.Runs.{places_to}
-use Rattle.wire.specs.Verdict.{bad, refuse, ◌▷◌}
-use Rattle.wire.specs.declared.verdict.Verdict.TheVariants.{Fine}
+use Rattle.wire.specs.Verdict.{bad, refuse, ◌▷◌, Fine}
 use Rattle.frame.specs.Reading.{checked_demands, opened, reading_by, checked_by}
 use Rattle.rnt.specs.Syntax.{Section}
 use Rattle.rnt.specs.Reading.{provider_at, section_at, named_verdict, provider_head, provider_verdict, common_row, payload_verdict, reading, plain, checked}

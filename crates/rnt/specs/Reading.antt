@@ -5,8 +5,7 @@ use Rattle.wire.specs.Lists.{part}
 use Rattle.length_field.specs.Lengths.{length_at, beside_at, block_at, block_end, long_row, block_verdict, block_need}
 use Rattle.wire.specs.Refusals.{common_too_long, provider_cut, provider_too_long, provider_name_cut, provider_descriptors_cut, authority_cut}
 use Rattle.wire.specs.Runs.{places_to, each_row}
-use Rattle.wire.specs.Verdict.{counted_row, refuse, ◌▷◌}
-use Rattle.wire.specs.declared.verdict.Verdict.{Verdict}
+use Rattle.wire.specs.Verdict.{counted_row, refuse, ◌▷◌, Verdict}
 use Rattle.section_header.specs.Reading.{header_at}
 use Rattle.frame.specs.Reading.{payload_end, plain_demands, reading_by, checked_by}
 use Rattle.frame.specs.declared.Demands.{Demands}

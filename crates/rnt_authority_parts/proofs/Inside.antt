@@ -7,13 +7,14 @@ use mathlib.Core.List.{List}
 use lib.ListN.{length, get_or}
 use Rattle.spans.specs.Spans.{span, span_of, span_in}
 use Rattle.wire.specs.declared.verdict.Refusal.{Refusal}
-use Rattle.wire.specs.declared.verdict.Verdict.TheVariants.{Fine, Refused}
 use Rattle.rnt.specs.Syntax.{Authority, Provider}
 use Rattle.rnt.specs.Reading.{section_at, authority_rows}
 use Rattle.rnt.proofs.Numbers.{provider-rows, authority-rows, authority-within, provider-is, authority-is}
 use Rattle.rnt_providers.specs.Providers.{authority_by, numbered_authority}
 use Rattle.rnt_parts.proofs.Inside.{payload-inside, by-verdict}
 use Rattle.rnt_authority_parts.specs.Parts.{authority_name_of, authority_descriptors_of, authority_name, authority_descriptors}
+use Rattle.std.specs.Prelude.{Err}
+use Rattle.wire.specs.Verdict.{Fine}
 
 module _ (xs : List ℕ) (k j : ℕ) where
   -- ---- what each span is: the record's, by the verdict of its call
@@ -33,7 +34,7 @@ module _ (xs : List ℕ) (k j : ℕ) where
       let q = provider-rows xs k o.0 in
       rw (v, provider-is xs q.0 k q.1 d, authority-is xs q.0 k q.1 j o.1 a)
 
-  pub authority-none : (r : Refusal) → authority_rows xs k j ≡ Refused r → (authority_name xs k j ≡ span 0 0) × (authority_descriptors xs k j ≡ span 0 0)
+  pub authority-none : (r : Refusal) → authority_rows xs k j ≡ Err r → (authority_name xs k j ≡ span 0 0) × (authority_descriptors xs k j ≡ span 0 0)
   unfolding authority_name_of authority_descriptors_of numbered_authority authority_by
   authority-none r v = (rw v, rw v)
 

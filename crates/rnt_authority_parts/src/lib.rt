@@ -7,25 +7,26 @@ ghost use Rattle.wire.specs.Lists.{within};
 ghost use Rattle.spans.specs.Spans.{span_of};
 ghost use Rattle.rnt_authority_parts.specs.Parts.{authority_name_of, authority_descriptors_of, authority_name, authority_descriptors};
 
+use rnt::CridAuthority;
 use rnt_parts::NOTHING;
-use rnt_providers::AuthorityRead;
 use spans::{Span, handed};
+use wire::verdict::Refusal;
 
-fn authority_name_of(read: AuthorityRead) -> Span
+fn authority_name_of(read: Result<CridAuthority, Refusal>) -> Span
     ensures { result ≡ authority_name_of read }
 {
     match read {
-        AuthorityRead::Got(authority) => authority.name,
-        AuthorityRead::Refused(_) => NOTHING,
+        Ok(authority) => authority.name,
+        Err(_) => NOTHING,
     }
 }
 
-fn authority_descriptors_of(read: AuthorityRead) -> Span
+fn authority_descriptors_of(read: Result<CridAuthority, Refusal>) -> Span
     ensures { result ≡ authority_descriptors_of read }
 {
     match read {
-        AuthorityRead::Got(authority) => authority.descriptors,
-        AuthorityRead::Refused(_) => NOTHING,
+        Ok(authority) => authority.descriptors,
+        Err(_) => NOTHING,
     }
 }
 

@@ -32,8 +32,8 @@ pub fn places_of(section: RntSection) -> ProviderPlaces {
 fn behind_authority(s: &[u8], end: u16, at: u16) -> u16 {
     let found = rnt_entries::read_authority(s, end, at);
     match found {
-        AuthorityFound::Got { authority: _, next } => next,
-        AuthorityFound::Refused(_) => end,
+        Ok(AuthorityFound { authority: _, next }) => next,
+        Err(_) => end,
     }
 }
 
@@ -42,13 +42,11 @@ fn behind_authority(s: &[u8], end: u16, at: u16) -> u16 {
 pub fn count_authorities(s: &[u8], end: u16, first: u16) -> usize {
     let most = end as usize;
     let mut at = first;
-    let mut count: usize = 0;
-    while count < most {
+    for count in 0..most {
         if at >= end {
             return count;
         }
         at = behind_authority(s, end, at);
-        count += 1;
     }
-    count
+    most
 }

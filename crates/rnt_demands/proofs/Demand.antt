@@ -7,7 +7,6 @@ use mathlib.Core.List.{List, [], ◌∷◌, ◌++◌, map}
 use native.Mathlib.Omega.{arith}
 use lib.ListN.{length, get_or, take}
 use Rattle.wire.specs.Lists.{Bytes}
-use Rattle.wire.specs.declared.verdict.Verdict.TheVariants.{Fine}
 use Rattle.frame.specs.Syntax.{crc_length}
 use Rattle.frame.specs.Reading.{payload_end, plain_demands}
 use Rattle.rnt.specs.Syntax.{Section, section_bytes, Fits}
@@ -17,6 +16,7 @@ use Rattle.rnt_reader.specs.Sections.{section_read}
 use Rattle.rnt_providers.specs.Providers.{numbered_provider, numbered_authority}
 use Rattle.rnt_providers.proofs.Answers.{rows_pass, provider-got, authority-rows-pass, authority-got}
 use Rattle.rnt_demands.specs.Told.{asked, authority_told, provider_told, section_told, told}
+use Rattle.wire.specs.Verdict.{Fine}
 
 -- what is told of each number is what stands at the places
 asked-all : {A : Type 0} (tell : ℕ → A) (g : ℕ → A) (n k : ℕ) (ps : List ℕ) → length ps ≡ n → ((i : ℕ) → i < n → tell (k + i) ≡ g (get_or ps i 0)) → asked n k tell ≡ map g ps

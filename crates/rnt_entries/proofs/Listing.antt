@@ -11,7 +11,6 @@ use lib.ListN.{length}
 use borrow.Author.Tests.{ltb-true, ltb-false}
 use Rattle.length_field.specs.Lengths.{block_end}
 use Rattle.wire.specs.Refusals.{authority_cut}
-use Rattle.wire.specs.declared.verdict.Verdict.TheVariants.{Fine}
 use Rattle.wire.proofs.RunLaws.{run-count}
 use Rattle.frame.specs.Reading.{payload_end, plain_demands}
 use Rattle.rnt.specs.Reading.{named_end, info_place, provider_count, provider_place, authority_count, authority_place, authority_verdict, plain}
@@ -20,17 +19,17 @@ use Rattle.rnt.proofs.Names.{named-up, named-passed, named-pass}
 use Rattle.rnt.proofs.Providers.{head-pass}
 use Rattle.rnt.proofs.Accepted.{accepted}
 use Rattle.rnt.proofs.Numbers.{provider-passed, authority-fine, provider-next, provider-last, authority-first}
-use Rattle.rnt_entries.specs.Entries.{provider_from, authority_from}
+use Rattle.rnt_entries.specs.Entries.{provider_from, authority_from, found_authority}
 use Rattle.rnt_heads.specs.Heads.{end_in}
-use Rattle.rnt_entries.specs.declared.ProviderFound.TheVariants as provider
-use Rattle.rnt_entries.specs.declared.AuthorityFound.TheVariants as authority
 use Rattle.rnt_entries.proofs.EntryLaws.{provider-found, authority-found}
+use Rattle.std.specs.Prelude.{Ok}
+use Rattle.wire.specs.Verdict.{Fine}
 
 module _ (xs : List ℕ) (v : plain xs ≡ Fine) (k : ℕ) (h : k < provider_count xs) where
   inside : payload_end xs ≤ length xs
   inside = let o = (accepted plain_demands xs v).frame in omega (arith, o.within)
 
-  pub listed-provider : provider_from xs (payload_end xs) (provider_place xs k) ≡ provider.Got (provider_info xs (provider_place xs k))
+  pub listed-provider : provider_from xs (payload_end xs) (provider_place xs k) ≡ Ok (provider_info xs (provider_place xs k))
   listed-provider =
       let i = inside in
       let is : end_in xs (payload_end xs) ≡ payload_end xs = omega arith in
@@ -39,7 +38,7 @@ module _ (xs : List ℕ) (v : plain xs ≡ Fine) (k : ℕ) (h : k < provider_cou
   -- told its provider's end, or any further one
   pub listed-authority : (e j : ℕ) → j < authority_count xs (provider_place xs k) → block_end xs (provider_place xs k) ≤ e
       → authority_from xs e (authority_place xs (provider_place xs k) j)
-      ≡ authority.Got (authority_info xs (authority_place xs (provider_place xs k) j)) (named_end xs (authority_place xs (provider_place xs k) j))
+      ≡ found_authority (authority_info xs (authority_place xs (provider_place xs k) j)) (named_end xs (authority_place xs (provider_place xs k) j))
   listed-authority e j l g =
       let i = inside in
       let q : ℕ = authority_place xs (provider_place xs k) j in

@@ -10,20 +10,13 @@ use length_field::LengthField;
 use rnt::{CridAuthority, ResolutionProvider};
 use rnt_heads::Headed;
 use spans::Span;
-use wire::verdict::{Reached, Refusal};
+use wire::verdict::Refusal;
 
-// A provider, or a refusal, beside which nothing is built.
+// An authority and the place behind it.
 #[derive(Drop)]
-pub enum ProviderFound {
-    Got(ResolutionProvider),
-    Refused(Refusal),
-}
-
-// An authority and the place behind it, or a refusal.
-#[derive(Drop)]
-pub enum AuthorityFound {
-    Got { authority: CridAuthority, next: u16 },
-    Refused(Refusal),
+pub struct AuthorityFound {
+    pub authority: CridAuthority,
+    pub next: u16,
 }
 
 // Where a name and the descriptors behind it stand, and the four bits before the length of these.
@@ -55,51 +48,41 @@ fn named_at(s: &[u8], p: usize) -> NamedPlaces
 }
 
 // The provider at a place of a section whose payload ends at `end`, its authorities not looked at: 42 to 45.
-pub fn read_provider(s: &[u8], end: u16, at: u16) -> ProviderFound
+pub fn read_provider(s: &[u8], end: u16, at: u16) -> Result<ResolutionProvider, Refusal>
     ensures { result ≡ provider_from s.now end at }
 {
     let p = at as usize;
-    let head = rnt_heads::past_head(s, end as usize, at);
-    match head {
-        Headed::At { first, end } => {
-            let field = LengthField::of_bytes(s[p], s[p + 1]);
-            let named = named_at(s, p + LengthField::BYTES);
-            let name = named.name;
-            let descriptors = named.descriptors;
-            ProviderFound::Got(ResolutionProvider {
-                reserved_info_length: field.beside as u16,
-                name,
-                reserved_descriptors_length: named.beside as u16,
-                descriptors,
-                authorities_at: first as u16,
-                end: end as u16,
-            })
-        }
-        Headed::Refused(r) => ProviderFound::Refused(r),
-    }
+    let head = rnt_heads::past_head(s, end as usize, at)?;
+    let field = LengthField::of_bytes(s[p], s[p + 1]);
+    let named = named_at(s, p + LengthField::BYTES);
+    let name = named.name;
+    let descriptors = named.descriptors;
+    Ok(ResolutionProvider {
+        reserved_info_length: field.beside as u16,
+        name,
+        reserved_descriptors_length: named.beside as u16,
+        descriptors,
+        authorities_at: head.first as u16,
+        end: head.end as u16,
+    })
 }
 
 // The authority at a place of a section, of a provider that ends at `end`: 46.
-pub fn read_authority(s: &[u8], end: u16, at: u16) -> AuthorityFound
+pub fn read_authority(s: &[u8], end: u16, at: u16) -> Result<AuthorityFound, Refusal>
     ensures { result ≡ authority_from s.now end at }
 {
     let p = at as usize;
-    let past = rnt_heads::past_authority(s, end as usize, at);
-    match past {
-        Reached::At(next) => {
-            let named = named_at(s, p);
-            let name = named.name;
-            let descriptors = named.descriptors;
-            AuthorityFound::Got {
-                authority: CridAuthority {
-                    name,
-                    reserved: (named.beside / CridAuthority::POLICIES) as u16,
-                    crid_authority_policy: (named.beside % CridAuthority::POLICIES) as u16,
-                    descriptors,
-                },
-                next: next as u16,
-            }
-        }
-        Reached::Refused(r) => AuthorityFound::Refused(r),
-    }
+    let next = rnt_heads::past_authority(s, end as usize, at)?;
+    let named = named_at(s, p);
+    let name = named.name;
+    let descriptors = named.descriptors;
+    Ok(AuthorityFound {
+        authority: CridAuthority {
+            name,
+            reserved: (named.beside / CridAuthority::POLICIES) as u16,
+            crid_authority_policy: (named.beside % CridAuthority::POLICIES) as u16,
+            descriptors,
+        },
+        next: next as u16,
+    })
 }

@@ -7,7 +7,7 @@ ghost use Rattle.rnt_heads.specs.Heads.{headed};
 
 use crate::Headed;
 use length_field::LengthField;
-use wire::verdict::{Reached, Refusal, Verdict};
+use wire::verdict::Refusal;
 
 pub(crate) fn smaller(a: usize, b: usize) -> usize
     ensures { result ≡ min a b }
@@ -15,10 +15,10 @@ pub(crate) fn smaller(a: usize, b: usize) -> usize
     if a < b { a } else { b }
 }
 
-fn cut(number: u8, need: usize, have: usize) -> Reached
+fn cut(number: u8, need: usize, have: usize) -> Result<usize, Refusal>
     ensures { result ≡ reached (bad number need have) 0 }
 {
-    Reached::Refused(Refusal {
+    Err(Refusal {
         number,
         first: need,
         second: have,
@@ -27,7 +27,13 @@ fn cut(number: u8, need: usize, have: usize) -> Reached
 
 // Over the name and descriptors at `p`, which end at `e` at the latest: `name` (need, have) if the name or its length is cut
 // off, `descriptors` (need, have) if they or their length are.
-pub(crate) fn past_named(s: &[u8], e: usize, p: usize, name: u8, descriptors: u8) -> Reached
+pub(crate) fn past_named(
+    s: &[u8],
+    e: usize,
+    p: usize,
+    name: u8,
+    descriptors: u8,
+) -> Result<usize, Refusal>
     requires { (e ≤ length s.now) × (p ≤ 65537) }
     ensures { result ≡ reached (named_verdict name descriptors s.now e p) (named_end s.now p) }
 {
@@ -48,39 +54,31 @@ pub(crate) fn past_named(s: &[u8], e: usize, p: usize, name: u8, descriptors: u8
     if e < end {
         return cut(descriptors, end, e);
     }
-    Reached::At(end)
+    Ok(end)
 }
 
 // Over the length, the name and the descriptors of the provider at `p` of a payload that ends at `e`: 42 to 45.
-pub(crate) fn past_provider_head(s: &[u8], e: usize, p: usize) -> Headed
+pub(crate) fn past_provider_head(s: &[u8], e: usize, p: usize) -> Result<Headed, Refusal>
     requires { (e ≤ length s.now) × (p ≤ 65535) }
     ensures { result ≡ headed (provider_head s.now e p) (named_end s.now (info_place p)) (block_end s.now p) }
 {
     let start = p + LengthField::BYTES;
     if e < start {
-        return Headed::Refused(Refusal {
+        return Err(Refusal {
             number: Refusal::PROVIDER_CUT,
             first: start,
             second: e,
         });
     }
     let field = LengthField::of_bytes(s[p], s[p + 1]);
-    let v = field.check_left(e - start, Refusal::PROVIDER_TOO_LONG);
-    match v {
-        Verdict::Fine => {
-            let end = start + field.length;
-            let named = past_named(
-                s,
-                end,
-                start,
-                Refusal::PROVIDER_NAME_CUT,
-                Refusal::PROVIDER_DESCRIPTORS_CUT,
-            );
-            match named {
-                Reached::At(first) => Headed::At { first, end },
-                Reached::Refused(r) => Headed::Refused(r),
-            }
-        }
-        Verdict::Refused(r) => Headed::Refused(r),
-    }
+    field.check_left(e - start, Refusal::PROVIDER_TOO_LONG)?;
+    let end = start + field.length;
+    let first = past_named(
+        s,
+        end,
+        start,
+        Refusal::PROVIDER_NAME_CUT,
+        Refusal::PROVIDER_DESCRIPTORS_CUT,
+    )?;
+    Ok(Headed { first, end })
 }

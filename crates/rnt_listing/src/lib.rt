@@ -11,15 +11,16 @@ use listing::lines::{
     put_descriptor_count, put_descriptors, put_field, put_header, put_last, put_refused,
 };
 use listing::options::Options;
-use listing::{MOST, Program, Taken};
+use listing::{MOST, Program};
 use names::{put_context_name, put_policy_name};
 use rnt::{CridAuthority, ResolutionProvider};
 use rnt_counts::{count_authorities, places_of};
-use rnt_entries::{AuthorityFound, ProviderFound};
-use rnt_reader::{RntRead, RntSection};
+use rnt_entries::AuthorityFound;
+use rnt_reader::RntSection;
 use spans::{Span, handed};
 use std::io;
 use std::io::Read;
+use wire::verdict::Refusal;
 
 const NAME: Short = *b"rntlist_________________";
 
@@ -81,11 +82,11 @@ fn put_authority_at(
 ) -> io::Result<u16> {
     let found = rnt_entries::read_authority(s, end, at);
     match found {
-        AuthorityFound::Got { authority, next } => {
+        Ok(AuthorityFound { authority, next }) => {
             put_authority(rt, s, number, authority, is_all)?;
             Ok(next)
         }
-        AuthorityFound::Refused(_) => Ok(end),
+        Err(_) => Ok(end),
     }
 }
 
@@ -136,11 +137,11 @@ fn put_provider_at(
 ) -> io::Result<u16> {
     let found = rnt_entries::read_provider(s, end, at);
     match found {
-        ProviderFound::Got(provider) => {
+        Ok(provider) => {
             put_provider(rt, s, number, provider, is_all)?;
             Ok(provider.end)
         }
-        ProviderFound::Refused(_) => Ok(end),
+        Err(_) => Ok(end),
     }
 }
 
@@ -173,7 +174,7 @@ fn put_whole(rt: &impl Print, s: &[u8], section: RntSection, is_all: bool) -> io
     )
 }
 
-fn read(s: &[u8], is_checked: bool) -> RntRead {
+fn read(s: &[u8], is_checked: bool) -> Result<RntSection, Refusal> {
     if is_checked {
         return rnt_reader::check_section(s);
     }
@@ -184,8 +185,8 @@ fn read(s: &[u8], is_checked: bool) -> RntRead {
 pub fn list(rt: &impl Print, s: &[u8], options: Options) -> io::Result<()> {
     let r = read(s, options.is_checked);
     match r {
-        RntRead::Refused(refusal) => put_refused(rt, refusal),
-        RntRead::Got(section) => put_whole(rt, s, section, options.is_all),
+        Err(refusal) => put_refused(rt, refusal),
+        Ok(section) => put_whole(rt, s, section, options.is_all),
     }
 }
 
@@ -199,7 +200,7 @@ pub fn run(
     let mut bytes = [0u8; MOST];
     let taken = listing::take(rt, program, options, input, &mut bytes)?;
     match taken {
-        Taken::Bytes(length) => list(rt, handed(&bytes, Span { start: 0, length }), options),
-        Taken::Nothing => Ok(()),
+        Some(length) => list(rt, handed(&bytes, Span { start: 0, length }), options),
+        None => Ok(()),
     }
 }

@@ -8,8 +8,6 @@ use lib.ListN.{length, get_or}
 use Rattle.spans.specs.Spans.{span, span_of, span_in}
 use Rattle.spans.specs.declared.Span.{Span}
 use Rattle.wire.specs.declared.verdict.Refusal.{Refusal}
-use Rattle.wire.specs.declared.verdict.Verdict.{Verdict}
-use Rattle.wire.specs.declared.verdict.Verdict.TheVariants.{Fine, Refused}
 use Rattle.spans.proofs.SpanLaws.{span-inside}
 use Rattle.frame.specs.Reading.{payload_end, plain_demands}
 use Rattle.rnt.specs.Syntax.{Provider}
@@ -19,6 +17,8 @@ use Rattle.rnt.proofs.Numbers.{provider-rows, provider-passed, provider-is}
 use Rattle.rnt_reader.specs.Sections.{section_read}
 use Rattle.rnt_providers.specs.Providers.{provider_by, numbered_provider}
 use Rattle.rnt_parts.specs.Parts.{common_of, provider_name_of, provider_descriptors_of, common_span, provider_name, provider_descriptors}
+use Rattle.std.specs.Prelude.{Err, Ok}
+use Rattle.wire.specs.Verdict.{Fine, Verdict}
 
 -- ---- what each span is: the record's, by the verdict of its call
 
@@ -27,7 +27,7 @@ module _ (xs : List ℕ) where
   unfolding common_of section_read section_at
   common-had v = rw v
 
-  pub common-none : (r : Refusal) → plain xs ≡ Refused r → common_span xs ≡ span 0 0
+  pub common-none : (r : Refusal) → plain xs ≡ Err r → common_span xs ≡ span 0 0
   unfolding common_of section_read
   common-none r v = rw v
 
@@ -40,7 +40,7 @@ module _ (xs : List ℕ) where
     unfolding provider_descriptors_of numbered_provider provider_by provider_at
     provider-descriptors-had d v = let o = provider-rows xs k v in rw (v, provider-is xs o.0 k o.1 d)
 
-    pub provider-none : (r : Refusal) → provider_rows xs k ≡ Refused r → (provider_name xs k ≡ span 0 0) × (provider_descriptors xs k ≡ span 0 0)
+    pub provider-none : (r : Refusal) → provider_rows xs k ≡ Err r → (provider_name xs k ≡ span 0 0) × (provider_descriptors xs k ≡ span 0 0)
     unfolding provider_name_of provider_descriptors_of numbered_provider provider_by
     provider-none r v = (rw v, rw v)
 
@@ -50,9 +50,9 @@ module _ (xs : List ℕ) where
   payload-inside v = let o = (accepted plain_demands xs v).frame in omega (arith, o.within)
 
   -- a span that lies within where the verdict is fine, and else is nothing
-  pub by-verdict : (v : Verdict) (s : Span) → (v ≡ Fine → s.start + s.length ≤ length xs) → ((r : Refusal) → v ≡ Refused r → s ≡ span 0 0) → span_in xs s ≡ s
-  by-verdict Fine s f g = span-inside xs s (f refl)
-  by-verdict (Refused r) s f g = let z = g r refl in span-inside xs s (rw z (omega arith))
+  pub by-verdict : (v : Verdict) (s : Span) → (v ≡ Fine → s.start + s.length ≤ length xs) → ((r : Refusal) → v ≡ Err r → s ≡ span 0 0) → span_in xs s ≡ s
+  by-verdict (Ok _) s f g = span-inside xs s (f refl)
+  by-verdict (Err r) s f g = let z = g r refl in span-inside xs s (rw z (omega arith))
 
   common-fine : plain xs ≡ Fine → (common_span xs).start + (common_span xs).length ≤ length xs
   unfolding common_of section_read

@@ -8,8 +8,9 @@ ghost use Rattle.spans.specs.Spans.{span_of};
 ghost use Rattle.rnt_parts.specs.Parts.{common_of, provider_name_of, provider_descriptors_of, common_span, provider_name, provider_descriptors};
 
 use rnt_providers::ProviderRead;
-use rnt_reader::RntRead;
+use rnt_reader::RntSection;
 use spans::{Span, handed};
+use wire::verdict::Refusal;
 
 // What is handed back where there is no such part: nothing, at the section's start.
 pub const NOTHING: Span = Span {
@@ -17,36 +18,40 @@ pub const NOTHING: Span = Span {
     length: 0,
 };
 
-fn common_of(read: RntRead) -> Span
+fn common_of(read: Result<RntSection, Refusal>) -> Span
     ensures { result ≡ common_of read }
 {
     match read {
-        RntRead::Got(section) => section.common_descriptors,
-        RntRead::Refused(_) => NOTHING,
+        Ok(section) => section.common_descriptors,
+        Err(_) => NOTHING,
     }
 }
 
-fn provider_name_of(read: ProviderRead) -> Span
+fn provider_name_of(read: Result<ProviderRead, Refusal>) -> Span
     ensures { result ≡ provider_name_of read }
 {
     match read {
-        ProviderRead::Got {
-            provider,
-            number_of_authorities: _,
-        } => provider.name,
-        ProviderRead::Refused(_) => NOTHING,
+        Ok(
+            ProviderRead {
+                provider,
+                number_of_authorities: _,
+            },
+        ) => provider.name,
+        Err(_) => NOTHING,
     }
 }
 
-fn provider_descriptors_of(read: ProviderRead) -> Span
+fn provider_descriptors_of(read: Result<ProviderRead, Refusal>) -> Span
     ensures { result ≡ provider_descriptors_of read }
 {
     match read {
-        ProviderRead::Got {
-            provider,
-            number_of_authorities: _,
-        } => provider.descriptors,
-        ProviderRead::Refused(_) => NOTHING,
+        Ok(
+            ProviderRead {
+                provider,
+                number_of_authorities: _,
+            },
+        ) => provider.descriptors,
+        Err(_) => NOTHING,
     }
 }
 

@@ -8,8 +8,6 @@ use native.Mathlib.Omega.{arith}
 use lib.ListN.{length, get_or}
 use Rattle.spans.specs.Spans.{span_of}
 use Rattle.wire.specs.declared.verdict.Refusal.{Refusal}
-use Rattle.wire.specs.declared.verdict.Verdict.{Verdict}
-use Rattle.wire.specs.declared.verdict.Verdict.TheVariants.{Fine, Refused}
 use Rattle.wire.proofs.Among.{listed, Among}
 use Rattle.rnt.specs.Syntax.{Authority, Provider}
 use Rattle.rnt.specs.Reading.{provider_place, authority_count, authority_place, authority_at, provider_at, section_at, provider_rows, authority_rows}
@@ -19,8 +17,8 @@ use Rattle.rnt.specs.declared.ResolutionProvider.{ResolutionProvider}
 use Rattle.rnt.proofs.Listed.{numbered_reading, provider-rows-listed, authority-rows-listed}
 use Rattle.rnt.proofs.Numbers.{provider-rows, authority-rows, provider-is, authority-is, authority-count-is}
 use Rattle.rnt_providers.specs.Providers.{provider_by, authority_by, numbered_provider, numbered_authority}
-use Rattle.rnt_providers.specs.declared.ProviderRead.TheVariants as provider
-use Rattle.rnt_providers.specs.declared.AuthorityRead.TheVariants as authority
+use Rattle.std.specs.Prelude.{Err, Ok}
+use Rattle.wire.specs.Verdict.{Fine, Verdict}
 
 -- ---- a record and the text that it has ranges of stand for a provider of so many authorities, and for an authority
 
@@ -57,18 +55,18 @@ authority-image xs k j d a v =
 
 -- ---- refusals: those of the plain reading, and 21
 
-pub read-provider-listed : (xs : List ℕ) (k : ℕ) (r : Refusal) → numbered_provider xs k ≡ provider.Refused r → listed r.number numbered_reading ≡ true
+pub read-provider-listed : (xs : List ℕ) (k : ℕ) (r : Refusal) → numbered_provider xs k ≡ Err r → listed r.number numbered_reading ≡ true
 unfolding numbered_provider provider_by
 read-provider-listed xs k r e = by (provider_rows xs k) _ _ (provider-rows-listed xs k) e
   where
-    by : (v : Verdict) (p : ResolutionProvider) (n : ℕ) → Among numbered_reading v → provider_by v p n ≡ provider.Refused r → listed r.number numbered_reading ≡ true
-    by Fine p n a g = let z : ◌≡◌ {A = ℕ} 0 1 = cc in absurd (omega arith)
-    by (Refused q) p n a g = a r (cc)
+    by : (v : Verdict) (p : ResolutionProvider) (n : ℕ) → Among numbered_reading v → provider_by v p n ≡ Err r → listed r.number numbered_reading ≡ true
+    by (Ok _) p n a g = let z : ◌≡◌ {A = ℕ} 0 1 = cc in absurd (omega arith)
+    by (Err q) p n a g = a r (cc)
 
-pub read-authority-listed : (xs : List ℕ) (k j : ℕ) (r : Refusal) → numbered_authority xs k j ≡ authority.Refused r → listed r.number numbered_reading ≡ true
+pub read-authority-listed : (xs : List ℕ) (k j : ℕ) (r : Refusal) → numbered_authority xs k j ≡ Err r → listed r.number numbered_reading ≡ true
 unfolding numbered_authority authority_by
 read-authority-listed xs k j r e = by (authority_rows xs k j) _ (authority-rows-listed xs k j) e
   where
-    by : (v : Verdict) (p : CridAuthority) → Among numbered_reading v → authority_by v p ≡ authority.Refused r → listed r.number numbered_reading ≡ true
-    by Fine p a g = let z : ◌≡◌ {A = ℕ} 0 1 = cc in absurd (omega arith)
-    by (Refused q) p a g = a r (cc)
+    by : (v : Verdict) (p : CridAuthority) → Among numbered_reading v → authority_by v p ≡ Err r → listed r.number numbered_reading ≡ true
+    by (Ok _) p a g = let z : ◌≡◌ {A = ℕ} 0 1 = cc in absurd (omega arith)
+    by (Err q) p a g = a r (cc)

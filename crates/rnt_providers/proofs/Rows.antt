@@ -12,9 +12,8 @@ use Rattle.rnt.specs.Reading.{named_verdict, provider_head, provider_verdict, co
 use Rattle.rnt.specs.declared.CridAuthority.{CridAuthority}
 use Rattle.rnt.specs.declared.ResolutionProvider.{ResolutionProvider}
 use Rattle.rnt.proofs.Rows.{sample}
-use Rattle.rnt_providers.specs.Providers.{provider_by, authority_by, numbered_provider, numbered_authority}
-use Rattle.rnt_providers.specs.declared.ProviderRead.TheVariants as provider
-use Rattle.rnt_providers.specs.declared.AuthorityRead.TheVariants as authority
+use Rattle.rnt_providers.specs.Providers.{provider_by, authority_by, numbered_provider, numbered_authority, got_provider}
+use Rattle.std.specs.Prelude.{Err, Ok}
 
 abbrev none : ℕ → ℕ → Refusal
 none k n = record { number = 21; first = k; second = n }
@@ -28,11 +27,11 @@ abbrev sample_authority : CridAuthority
 sample_authority = record { name = span 22 1; reserved = 1; crid_authority_policy = 2; descriptors = span 25 2 }
 
 pub record Rows : Type 0 where
-  pub provider_0 : numbered_provider sample 0 ≡ provider.Got sample_provider 1
-  pub provider_1 : numbered_provider sample 1 ≡ provider.Refused (none 1 1)
-  pub authority_0 : numbered_authority sample 0 0 ≡ authority.Got sample_authority
-  pub authority_of_1 : numbered_authority sample 1 0 ≡ authority.Refused (none 1 1)
-  pub authority_2 : numbered_authority sample 0 2 ≡ authority.Refused (none 2 1)
+  pub provider_0 : numbered_provider sample 0 ≡ got_provider sample_provider 1
+  pub provider_1 : numbered_provider sample 1 ≡ Err (none 1 1)
+  pub authority_0 : numbered_authority sample 0 0 ≡ Ok sample_authority
+  pub authority_of_1 : numbered_authority sample 1 0 ≡ Err (none 1 1)
+  pub authority_2 : numbered_authority sample 0 2 ≡ Err (none 2 1)
 
 pub rows : Rows
 unfolding numbered_provider provider_by numbered_authority authority_by provider_rows authority_rows reading_by opened payload_verdict common_row long_row provider_verdict provider_head named_verdict block_rows places_to refuse ◌▷◌

@@ -9,8 +9,6 @@ use lib.ListN.{length, length-take}
 use Rattle.wire.specs.Lists.{Bytes}
 use Rattle.spans.specs.Spans.{span_of}
 use Rattle.wire.specs.declared.verdict.Refusal.{Refusal}
-use Rattle.wire.specs.declared.verdict.Verdict.{Verdict}
-use Rattle.wire.specs.declared.verdict.Verdict.TheVariants.{Fine, Refused}
 use Rattle.wire.proofs.Among.{listed, Among}
 use Rattle.frame.specs.Syntax.{crc_length}
 use Rattle.frame.specs.Reading.{payload_end, plain_demands}
@@ -21,7 +19,8 @@ use Rattle.rnt.proofs.Listed.{plain_reading, checked_reading, plain-listed, chec
 use Rattle.rnt.proofs.Numbers.{count_is, provider-first}
 use Rattle.rnt_reader.specs.Sections.{section_info, section_read}
 use Rattle.rnt_reader.specs.declared.RntSection.{RntSection}
-use Rattle.rnt_reader.specs.declared.RntRead.TheVariants as read
+use Rattle.std.specs.Prelude.{Err, Ok}
+use Rattle.wire.specs.Verdict.{Fine, Verdict}
 
 -- a record and the text that it has ranges of stand for a section
 pub record StandsFor (text : List ℕ) (k : RntSection) (s : Section) : Type 0 where
@@ -43,13 +42,13 @@ section-total xs b v =
 pub first-provider : (xs : List ℕ) → 0 < provider_count xs → provider_place xs 0 ≡ (section_info xs).common_descriptors.start + (section_info xs).common_descriptors.length
 first-provider xs h = provider-first xs h
 
-read-listed : (ns : List ℕ) (v : Verdict) (xs : List ℕ) → Among ns v → (r : Refusal) → section_read v xs ≡ read.Refused r → listed r.number ns ≡ true
+read-listed : (ns : List ℕ) (v : Verdict) (xs : List ℕ) → Among ns v → (r : Refusal) → section_read v xs ≡ Err r → listed r.number ns ≡ true
 unfolding section_read
-read-listed ns Fine xs a r e = let z : ◌≡◌ {A = ℕ} 0 1 = cc in absurd (omega arith)
-read-listed ns (Refused q) xs a r e = a r (cc)
+read-listed ns (Ok _) xs a r e = let z : ◌≡◌ {A = ℕ} 0 1 = cc in absurd (omega arith)
+read-listed ns (Err q) xs a r e = a r (cc)
 
-pub read-section-listed : (xs : List ℕ) (r : Refusal) → section_read (plain xs) xs ≡ read.Refused r → listed r.number plain_reading ≡ true
+pub read-section-listed : (xs : List ℕ) (r : Refusal) → section_read (plain xs) xs ≡ Err r → listed r.number plain_reading ≡ true
 read-section-listed xs = read-listed plain_reading (plain xs) xs (plain-listed xs)
 
-pub check-section-listed : (xs : List ℕ) (r : Refusal) → section_read (checked xs) xs ≡ read.Refused r → listed r.number checked_reading ≡ true
+pub check-section-listed : (xs : List ℕ) (r : Refusal) → section_read (checked xs) xs ≡ Err r → listed r.number checked_reading ≡ true
 check-section-listed xs = read-listed checked_reading (checked xs) xs (checked-listed xs)

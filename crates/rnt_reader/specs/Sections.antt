@@ -1,16 +1,14 @@
 -- The answer of the readings of a whole section.
 -- Assumes nothing.
-use Rattle.std.specs.Prelude.{ℕ, ◌+◌, List}
+use Rattle.std.specs.Prelude.{ℕ, ◌+◌, List, Err, Ok, Result}
 use Rattle.length_field.specs.Lengths.{length_at, beside_at}
 use Rattle.spans.specs.Spans.{span}
-use Rattle.wire.specs.declared.verdict.Verdict.{Verdict}
-use Rattle.wire.specs.declared.verdict.Verdict.TheVariants.{Fine, Refused}
 use Rattle.frame.specs.Reading.{total_of}
 use Rattle.rnt.specs.Syntax.{common_place}
 use Rattle.rnt.specs.Reading.{rnt_header_at, provider_count}
 use Rattle.rnt_reader.specs.declared.RntSection.{RntSection}
-use Rattle.rnt_reader.specs.declared.RntRead.{RntRead}
-use Rattle.rnt_reader.specs.declared.RntRead.TheVariants as read
+use Rattle.wire.specs.Verdict.{Verdict}
+use Rattle.wire.specs.declared.verdict.Refusal.{Refusal}
 
 -- the common descriptors are counted from the section's first byte
 abbrev pub section_info : List ℕ → RntSection
@@ -24,6 +22,6 @@ section_info xs =
     }
 
 -- by the verdict on the bytes
-unfoldable pub section_read : Verdict → List ℕ → RntRead
-section_read Fine xs = read.Got (section_info xs)
-section_read (Refused r) xs = read.Refused r
+unfoldable pub section_read : Verdict → List ℕ → Result RntSection Refusal
+section_read (Ok _) xs = Ok (section_info xs)
+section_read (Err r) xs = Err r

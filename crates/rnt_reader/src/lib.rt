@@ -1,19 +1,17 @@
 // Reading a resolution notification section as a whole, by plain and by checked reading.
 #![tactic(auto)]
 
-ghost use Rattle.std.specs.Prelude.{◌≡◌, ◌≤◌, length};
-ghost use Rattle.wire.specs.declared.verdict.Verdict.{Verdict};
-ghost use Rattle.wire.specs.declared.verdict.Verdict.TheVariants.{Fine};
+ghost use Rattle.std.specs.Prelude.{◌≡◌, ◌≤◌, length, Ok};
 ghost use Rattle.rnt.specs.Syntax.{common_place};
 ghost use Rattle.rnt.specs.Reading.{rnt_header_at, plain, checked};
 ghost use Rattle.rnt_walker.specs.Places.{places_at, walked};
 ghost use Rattle.rnt_walker.specs.declared.RntPlaces.{RntPlaces};
-ghost use Rattle.rnt_walker.specs.declared.RntWalked.TheVariants.{Read};
 ghost use Rattle.rnt_reader.specs.Sections.{section_info, section_read};
+ghost use Rattle.wire.specs.Verdict.{Fine, Verdict};
 
 use length_field::LengthField;
 use rnt::RntHeader;
-use rnt_walker::{RntPlaces, RntWalked};
+use rnt_walker::RntPlaces;
 use spans::Span;
 use wire::verdict::Refusal;
 
@@ -25,12 +23,6 @@ pub struct RntSection {
     pub reserved_common_descriptors_length: u16,
     pub common_descriptors: Span,
     pub number_of_providers: usize,
-}
-
-#[derive(Drop)]
-pub enum RntRead {
-    Got(RntSection),
-    Refused(Refusal),
 }
 
 fn header_at(s: &[u8]) -> RntHeader
@@ -65,25 +57,23 @@ fn section_at(s: &[u8], places: RntPlaces) -> RntSection
 }
 
 // What either reading answers, by what its walk found.
-fn section_of(s: &[u8], found: RntWalked) -> RntRead
-    requires { (p : RntPlaces) → found ≡ Read p → (p ≡ places_at s.now 0 0) × (plain s.now ≡ Fine) }
+fn section_of(s: &[u8], found: Result<RntPlaces, Refusal>) -> Result<RntSection, Refusal>
+    requires { (p : RntPlaces) → found ≡ Ok p → (p ≡ places_at s.now 0 0) × (plain s.now ≡ Fine) }
     ensures { (v : Verdict) → found ≡ walked v (places_at s.now 0 0) → result ≡ section_read v s.now }
 {
-    match found {
-        RntWalked::Read(places) => RntRead::Got(section_at(s, places)),
-        RntWalked::Refused(r) => RntRead::Refused(r),
-    }
+    let places = found?;
+    Ok(section_at(s, places))
 }
 
 // The plain reading: 1, 40, 3 and 41 to 46. No provider is looked for: what the walk finds of the first is passed over.
-pub fn read_section(s: &[u8]) -> RntRead
+pub fn read_section(s: &[u8]) -> Result<RntSection, Refusal>
     ensures { result ≡ section_read (plain s.now) s.now }
 {
     section_of(s, rnt_readings::plain_places(s, 0, 0))
 }
 
 // The checked reading: the plain one with 38 behind 40, then 20.
-pub fn check_section(s: &[u8]) -> RntRead
+pub fn check_section(s: &[u8]) -> Result<RntSection, Refusal>
     ensures { result ≡ section_read (checked s.now) s.now }
 {
     section_of(s, rnt_readings::checked_places(s, 0, 0))

@@ -7,29 +7,21 @@ ghost use Rattle.rnt.specs.Reading.{plain, checked};
 ghost use Rattle.rnt_walker.specs.Places.{places_at, walked};
 
 use frame::Demands;
-use rnt_walker::{RntWalked, walk};
-use wire::verdict::Verdict;
+use rnt_walker::{RntPlaces, walk};
+use wire::verdict::Refusal;
 
 // The places of a section, of a provider by number and of one of its authorities by number, by the plain reading.
-pub fn plain_places(s: &[u8], provider: usize, authority: usize) -> RntWalked
+pub fn plain_places(s: &[u8], provider: usize, authority: usize) -> Result<RntPlaces, Refusal>
     ensures { result ≡ walked (plain s.now) (places_at s.now provider authority) }
 {
     walk::read_places(s, Demands::plain(), provider, authority)
 }
 
 // The same by the checked reading.
-pub fn checked_places(s: &[u8], provider: usize, authority: usize) -> RntWalked
+pub fn checked_places(s: &[u8], provider: usize, authority: usize) -> Result<RntPlaces, Refusal>
     ensures { result ≡ walked (checked s.now) (places_at s.now provider authority) }
 {
-    let read = walk::read_places(s, Demands::checked(), provider, authority);
-    match read {
-        RntWalked::Read(places) => {
-            let v = frame_ending::check_crc(s, frame::payload_end(places.total));
-            match v {
-                Verdict::Fine => RntWalked::Read(places),
-                Verdict::Refused(r) => RntWalked::Refused(r),
-            }
-        }
-        RntWalked::Refused(r) => RntWalked::Refused(r),
-    }
+    let places = walk::read_places(s, Demands::checked(), provider, authority)?;
+    frame_ending::check_crc(s, frame::payload_end(places.total))?;
+    Ok(places)
 }

@@ -10,8 +10,8 @@ use Rattle.frame.specs.declared.Demands.{Demands}
 use Rattle.rnt.specs.Reading.{reading}
 use Rattle.rnt.proofs.Listed.{demanded_reading, reading-listed}
 use Rattle.rnt_walker.specs.Places.{places_at, walked}
-use Rattle.rnt_walker.specs.declared.RntWalked.TheVariants as walk
 use Rattle.rnt_walker.proofs.Walks.{walked-refused}
+use Rattle.std.specs.Prelude.{Err}
 
-pub read-places-listed : (d : Demands) (xs : List ℕ) (k j : ℕ) (r : Refusal) → walked (reading d xs) (places_at xs k j) ≡ walk.Refused r → listed r.number demanded_reading ≡ true
+pub read-places-listed : (d : Demands) (xs : List ℕ) (k j : ℕ) (r : Refusal) → walked (reading d xs) (places_at xs k j) ≡ Err r → listed r.number demanded_reading ≡ true
 read-places-listed d xs k j r e = reading-listed d xs r (walked-refused (reading d xs) _ r e)

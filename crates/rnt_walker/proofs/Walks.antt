@@ -10,9 +10,7 @@ use lib.ListN.{length, get_or}
 use borrow.Author.Tests.{eqb-true, eqb-false, ltb-true, ltb-false}
 use Rattle.wire.specs.Choice.{pick}
 use Rattle.wire.specs.declared.verdict.Refusal.{Refusal}
-use Rattle.wire.specs.declared.verdict.Verdict.{Verdict}
-use Rattle.wire.specs.declared.verdict.Verdict.TheVariants.{Fine, Refused}
-use Rattle.wire.proofs.Verdicts.{go_on, refused-then}
+use Rattle.wire.proofs.Verdicts.{go_on, refused-then, ok-same}
 use Rattle.length_field.specs.Lengths.{length_at, block_end, long_row}
 use Rattle.wire.specs.Refusals.{common_too_long}
 use Rattle.wire.specs.Runs.{places_to, each_row}
@@ -21,11 +19,10 @@ use Rattle.frame.specs.Reading.{payload_end}
 use Rattle.rnt.specs.Syntax.{common_place}
 use Rattle.rnt.specs.Reading.{info_place, named_end, provider_head, provider_verdict, common_row, payload_verdict}
 use Rattle.rnt_walker.specs.Places.{walked}
-use Rattle.rnt_walker.specs.Stages.{counted, passed, authorities_verdict, providers_verdict}
+use Rattle.rnt_walker.specs.Stages.{counted, passed, authorities_verdict, providers_verdict, counted_at, passed_at}
 use Rattle.rnt_walker.specs.declared.RntPlaces.{RntPlaces}
-use Rattle.rnt_walker.specs.declared.RntWalked.TheVariants as walk
-use Rattle.rnt_walker.specs.declared.walk.Counted.TheVariants as count
-use Rattle.rnt_walker.specs.declared.walk.Passed.TheVariants as past
+use Rattle.std.specs.Prelude.{Err, Ok}
+use Rattle.wire.specs.Verdict.{Fine, Verdict}
 
 -- ---- answers, made and taken apart
 
@@ -34,57 +31,57 @@ pub record CountKnown (v : Verdict) (ps : List ℕ) (k a b : ℕ) : Type 0 where
   pub number : length ps ≡ a
   pub place : get_or ps k 0 ≡ b
 
-pub counted-at : (v : Verdict) (ps : List ℕ) (k a b : ℕ) → counted v ps k ≡ count.At a b → CountKnown v ps k a b
+pub counted-at : (v : Verdict) (ps : List ℕ) (k a b : ℕ) → counted v ps k ≡ counted_at a b → CountKnown v ps k a b
 unfolding counted
-counted-at Fine ps k a b e = record { fine = refl; number = cc; place = cc }
-counted-at (Refused r) ps k a b e = let z : ◌≡◌ {A = ℕ} 0 1 = cc in absurd (omega arith)
+counted-at (Ok _) ps k a b e = let same = ok-same _ _ e in record { fine = refl; number = ap (λ p. p.count) same; place = ap (λ p. p.place) same }
+counted-at (Err r) ps k a b e = let z : ◌≡◌ {A = ℕ} 0 1 = cc in absurd (omega arith)
 
-pub counted-refused : (v : Verdict) (ps : List ℕ) (k : ℕ) (r : Refusal) → counted v ps k ≡ count.Refused r → v ≡ Refused r
+pub counted-refused : (v : Verdict) (ps : List ℕ) (k : ℕ) (r : Refusal) → counted v ps k ≡ Err r → v ≡ Err r
 unfolding counted
-counted-refused Fine ps k r e = let z : ◌≡◌ {A = ℕ} 0 1 = cc in absurd (omega arith)
-counted-refused (Refused r') ps k r e = cc
+counted-refused (Ok _) ps k r e = let z : ◌≡◌ {A = ℕ} 0 1 = cc in absurd (omega arith)
+counted-refused (Err r') ps k r e = cc
 
-pub at-counted : (v : Verdict) (ps : List ℕ) (k a b : ℕ) → CountKnown v ps k a b → count.At a b ≡ counted v ps k
+pub at-counted : (v : Verdict) (ps : List ℕ) (k a b : ℕ) → CountKnown v ps k a b → counted_at a b ≡ counted v ps k
 unfolding counted
 at-counted v ps k a b c = rw (c.fine, c.number, c.place)
 
-pub refused-counted : (v : Verdict) (ps : List ℕ) (k : ℕ) (r : Refusal) → v ≡ Refused r → count.Refused r ≡ counted v ps k
+pub refused-counted : (v : Verdict) (ps : List ℕ) (k : ℕ) (r : Refusal) → v ≡ Err r → Err r ≡ counted v ps k
 unfolding counted
 refused-counted v ps k r e = rw e
 
-pub passed-at : (v : Verdict) (q : ℕ) (ps : List ℕ) (k a b c : ℕ) → passed v q ps k ≡ past.At a b c → (q ≡ a) × CountKnown v ps k b c
+pub passed-at : (v : Verdict) (q : ℕ) (ps : List ℕ) (k a b c : ℕ) → passed v q ps k ≡ passed_at a b c → (q ≡ a) × CountKnown v ps k b c
 unfolding passed
-passed-at Fine q ps k a b c e = (cc, record { fine = refl; number = cc; place = cc })
-passed-at (Refused r) q ps k a b c e = let z : ◌≡◌ {A = ℕ} 0 1 = cc in absurd (omega arith)
+passed-at (Ok _) q ps k a b c e = let same = ok-same _ _ e in (ap (λ p. p.end) same, record { fine = refl; number = ap (λ p. p.count) same; place = ap (λ p. p.place) same })
+passed-at (Err r) q ps k a b c e = let z : ◌≡◌ {A = ℕ} 0 1 = cc in absurd (omega arith)
 
-pub passed-refused : (v : Verdict) (q : ℕ) (ps : List ℕ) (k : ℕ) (r : Refusal) → passed v q ps k ≡ past.Refused r → v ≡ Refused r
+pub passed-refused : (v : Verdict) (q : ℕ) (ps : List ℕ) (k : ℕ) (r : Refusal) → passed v q ps k ≡ Err r → v ≡ Err r
 unfolding passed
-passed-refused Fine q ps k r e = let z : ◌≡◌ {A = ℕ} 0 1 = cc in absurd (omega arith)
-passed-refused (Refused r') q ps k r e = cc
+passed-refused (Ok _) q ps k r e = let z : ◌≡◌ {A = ℕ} 0 1 = cc in absurd (omega arith)
+passed-refused (Err r') q ps k r e = cc
 
-pub at-passed : (v : Verdict) (q : ℕ) (ps : List ℕ) (k a b c : ℕ) → q ≡ a → CountKnown v ps k b c → past.At a b c ≡ passed v q ps k
+pub at-passed : (v : Verdict) (q : ℕ) (ps : List ℕ) (k a b c : ℕ) → q ≡ a → CountKnown v ps k b c → passed_at a b c ≡ passed v q ps k
 unfolding passed
 at-passed v q ps k a b c f d = rw (f, d.fine, d.number, d.place)
 
-pub refused-passed : (v : Verdict) (q : ℕ) (ps : List ℕ) (k : ℕ) (r : Refusal) → v ≡ Refused r → past.Refused r ≡ passed v q ps k
+pub refused-passed : (v : Verdict) (q : ℕ) (ps : List ℕ) (k : ℕ) (r : Refusal) → v ≡ Err r → Err r ≡ passed v q ps k
 unfolding passed
 refused-passed v q ps k r e = rw e
 
-pub walked-read : (v : Verdict) (k l : RntPlaces) → walked v k ≡ walk.Read l → (v ≡ Fine) × (k ≡ l)
+pub walked-read : (v : Verdict) (k l : RntPlaces) → walked v k ≡ Ok l → (v ≡ Fine) × (k ≡ l)
 unfolding walked
-walked-read Fine k l e = (refl, cc)
-walked-read (Refused r) k l e = let z : ◌≡◌ {A = ℕ} 0 1 = cc in absurd (omega arith)
+walked-read (Ok _) k l e = (refl, cc)
+walked-read (Err r) k l e = let z : ◌≡◌ {A = ℕ} 0 1 = cc in absurd (omega arith)
 
-pub walked-refused : (v : Verdict) (k : RntPlaces) (r : Refusal) → walked v k ≡ walk.Refused r → v ≡ Refused r
+pub walked-refused : (v : Verdict) (k : RntPlaces) (r : Refusal) → walked v k ≡ Err r → v ≡ Err r
 unfolding walked
-walked-refused Fine k r e = let z : ◌≡◌ {A = ℕ} 0 1 = cc in absurd (omega arith)
-walked-refused (Refused r') k r e = cc
+walked-refused (Ok _) k r e = let z : ◌≡◌ {A = ℕ} 0 1 = cc in absurd (omega arith)
+walked-refused (Err r') k r e = cc
 
-pub read-walked : (v : Verdict) (k l : RntPlaces) → v ≡ Fine → k ≡ l → walk.Read l ≡ walked v k
+pub read-walked : (v : Verdict) (k l : RntPlaces) → v ≡ Fine → k ≡ l → Ok l ≡ walked v k
 unfolding walked
 read-walked v k l e f = rw (e, f)
 
-pub refused-walked : (v : Verdict) (k : RntPlaces) (r : Refusal) → v ≡ Refused r → walk.Refused r ≡ walked v k
+pub refused-walked : (v : Verdict) (k : RntPlaces) (r : Refusal) → v ≡ Err r → Err r ≡ walked v k
 unfolding walked
 refused-walked v k r e = rw e
 
@@ -146,7 +143,7 @@ module _ (next : ℕ → ℕ) (up : (q : ℕ) → q < next q) (row : ℕ → Ver
         number = rw (← is) (omega (arith, run-count next up row e p h, w.number));
       }
 
-  pub walk-stop : (p i : ℕ) (r : Refusal) → Walking p i → p < e → row p ≡ Refused r → each_row row (places_to next e a) ≡ Refused r
+  pub walk-stop : (p i : ℕ) (r : Refusal) → Walking p i → p < e → row p ≡ Err r → each_row row (places_to next e a) ≡ Err r
   walk-stop p i r w h v = sym w.rows ∙ run-stop next up row e p h r v
 
   pub walk_fine : (p i : ℕ) → Walking p i → e ≤ p → each_row row (places_to next e a) ≡ Fine
@@ -176,7 +173,7 @@ module _ (next : ℕ → ℕ) (up : (q : ℕ) → q < next q) (e a : ℕ) where
 -- ---- one provider
 
 module _ (xs : List ℕ) (e p : ℕ) where
-  pub provider-stop : (r : Refusal) → provider_head xs e p ≡ Refused r → provider_verdict xs e p ≡ Refused r
+  pub provider-stop : (r : Refusal) → provider_head xs e p ≡ Err r → provider_verdict xs e p ≡ Err r
   unfolding provider_verdict
   provider-stop r v = refused-then _ _ r v
 
@@ -188,7 +185,7 @@ module _ (xs : List ℕ) (e p : ℕ) where
 -- ---- the common descriptors, then the providers
 
 module _ (xs : List ℕ) where
-  pub payload-stop : (r : Refusal) → common_row xs ≡ Refused r → payload_verdict xs ≡ Refused r
+  pub payload-stop : (r : Refusal) → common_row xs ≡ Err r → payload_verdict xs ≡ Err r
   unfolding payload_verdict
   payload-stop r v = refused-then _ _ r v
 

@@ -2,8 +2,6 @@
 // authorities.
 #![tactic(auto)]
 
-use wire::verdict::Refusal;
-
 pub mod walk;
 
 // The bytes of the section, the number of its providers, and of the provider that was asked for its place, the number of its
@@ -15,10 +13,4 @@ pub struct RntPlaces {
     pub provider_at: usize,
     pub authorities: usize,
     pub authority_at: usize,
-}
-
-#[derive(Drop)]
-pub enum RntWalked {
-    Read(RntPlaces),
-    Refused(Refusal),
 }

@@ -15,23 +15,22 @@ use Rattle.link_names.proofs.Among.{only-among}
 use Rattle.link_names.specs.declared.Numbers.{Numbers}
 use Rattle.scheme_names.specs.declared.HowRelated.{HowRelated}
 use Rattle.scheme_names.specs.declared.HowRelated.TheVariants.{Cs2004, Cs2005, Cs2007, DvbReserved, UserPrivate}
-use Rattle.scheme_names.specs.declared.NamedScheme.{NamedScheme}
-use Rattle.scheme_names.specs.declared.NamedScheme.TheVariants.{Known, Nothing}
+use Rattle.std.specs.Prelude.{None, Option, Some}
 
 -- ---- the table, number by number
 
 pub record SchemeTable : Type 0 where
-  pub of_2004 : scheme_of 0 ≡ Known Cs2004
-  pub of_2005 : scheme_of 1 ≡ Known Cs2005
-  pub of_2007 : scheme_of 2 ≡ Known Cs2007
-  pub reserved : (n : ℕ) → 3 ≤ n → n ≤ 47 → scheme_of n ≡ Known (DvbReserved n)
-  pub private : (n : ℕ) → 48 ≤ n → n ≤ 63 → scheme_of n ≡ Known (UserPrivate n)
-  pub others : (n : ℕ) → 64 ≤ n → scheme_of n ≡ Nothing
+  pub of_2004 : scheme_of 0 ≡ Some Cs2004
+  pub of_2005 : scheme_of 1 ≡ Some Cs2005
+  pub of_2007 : scheme_of 2 ≡ Some Cs2007
+  pub reserved : (n : ℕ) → 3 ≤ n → n ≤ 47 → scheme_of n ≡ Some (DvbReserved n)
+  pub private : (n : ℕ) → 48 ≤ n → n ≤ 63 → scheme_of n ≡ Some (UserPrivate n)
+  pub others : (n : ℕ) → 64 ≤ n → scheme_of n ≡ None
 
-abbrev above : ℕ → NamedScheme
-above n = pick (leb n 63) (Known (UserPrivate n)) Nothing
+abbrev above : ℕ → Option HowRelated
+above n = pick (leb n 63) (Some (UserPrivate n)) None
 
-unnamed : (n : ℕ) → 3 ≤ n → scheme_of n ≡ pick (leb n 47) (Known (DvbReserved n)) (above n)
+unnamed : (n : ℕ) → 3 ≤ n → scheme_of n ≡ pick (leb n 47) (Some (DvbReserved n)) (above n)
 unnamed n h = simp (ne_eqb n 0 (λ e. omega arith), ne_eqb n 1 (λ e. omega arith), ne_eqb n 2 (λ e. omega arith))
 
 pub scheme-table : SchemeTable
@@ -52,9 +51,9 @@ pub record SchemeHas (n : ℕ) (h : HowRelated) : Type 0 where
   pub number : scheme_number h ≡ n
   pub among : Among n (scheme_numbers h)
 
-abbrev Holds : ℕ → NamedScheme → Type 0
-Holds n (Known h) = SchemeHas n h
-Holds n Nothing = 63 < n
+abbrev Holds : ℕ → Option HowRelated → Type 0
+Holds n (Some h) = SchemeHas n h
+Holds n None = 63 < n
 
 holds : (n : ℕ) → Holds n (scheme_of n)
 holds zero = record { number = refl; among = (omega arith, omega arith) }
@@ -65,18 +64,18 @@ holds (suc (suc (suc k))) = rw (unnamed n (omega arith)) (go (leb n 47) refl)
     n : ℕ
     n = suc (suc (suc k))
 
-    up : (b : Bool) → 47 < n → leb n 63 ≡ b → Holds n (pick b (Known (UserPrivate n)) Nothing)
+    up : (b : Bool) → 47 < n → leb n 63 ≡ b → Holds n (pick b (Some (UserPrivate n)) None)
     up true l e = record { number = refl; among = (l, leb-true n 63 e) }
     up false l e = leb-false n 63 e
 
-    go : (b : Bool) → leb n 47 ≡ b → Holds n (pick b (Known (DvbReserved n)) (above n))
+    go : (b : Bool) → leb n 47 ≡ b → Holds n (pick b (Some (DvbReserved n)) (above n))
     go true e = record { number = refl; among = (omega arith, leb-true n 47 e) }
     go false e = up (leb n 63) (leb-false n 47 e) refl
 
-pub scheme-has : (n : ℕ) (h : HowRelated) → scheme_of n ≡ Known h → SchemeHas n h
+pub scheme-has : (n : ℕ) (h : HowRelated) → scheme_of n ≡ Some h → SchemeHas n h
 scheme-has n h e = rw e at (holds n)
 
-pub scheme-back : (h : HowRelated) → Among (scheme_number h) (scheme_numbers h) → scheme_of (scheme_number h) ≡ Known h
+pub scheme-back : (h : HowRelated) → Among (scheme_number h) (scheme_numbers h) → scheme_of (scheme_number h) ≡ Some h
 scheme-back Cs2004 m = refl
 scheme-back Cs2005 m = refl
 scheme-back Cs2007 m = refl
@@ -86,9 +85,9 @@ scheme-back (UserPrivate n) m = scheme-table.private n m.0 m.1
 -- ---- the classes part the numbers among them
 
 -- the numbers of a number's class, and none where it has no class
-abbrev numbers_of : NamedScheme → Numbers
-numbers_of (Known h) = scheme_numbers h
-numbers_of Nothing = from-to 1 0
+abbrev numbers_of : Option HowRelated → Numbers
+numbers_of (Some h) = scheme_numbers h
+numbers_of None = from-to 1 0
 
 abbrev numbers_at : ℕ → Numbers
 numbers_at n = numbers_of (scheme_of n)
@@ -106,11 +105,11 @@ schemes-apart n h k l m = sym (scheme-among n h l) ∙ scheme-among n k m
 
 pub record Classed (n : ℕ) : Type 0 where
   pub scheme : HowRelated
-  pub known : scheme_of n ≡ Known scheme
+  pub known : scheme_of n ≡ Some scheme
 
 pub schemes-cover : (n : ℕ) → n ≤ how_related.widest → Classed n
 schemes-cover n h = go (scheme_of n) refl
   where
-    go : (r : NamedScheme) → scheme_of n ≡ r → Classed n
-    go (Known s) e = record { scheme = s; known = e }
-    go Nothing e = let over : 63 < n = rw e at (holds n) in absurd (omega (arith, over))
+    go : (r : Option HowRelated) → scheme_of n ≡ r → Classed n
+    go (Some s) e = record { scheme = s; known = e }
+    go None e = let over : 63 < n = rw e at (holds n) in absurd (omega (arith, over))

@@ -1,15 +1,13 @@
 -- The classification schemes of how_related (ETSI TS 102 323, Table 112): 0, 1 and 2 are those of 2004, 2005 and 2007, the numbers
 -- up to 0x2F are reserved for DVB, and those above are private to users, up to the widest number.
 -- Assumes nothing.
-use Rattle.std.specs.Prelude.{ℕ, eqb, leb}
+use Rattle.std.specs.Prelude.{ℕ, eqb, leb, None, Option, Some}
 use Rattle.wire.specs.Choice.{pick}
 use Rattle.field.specs.Fields.{how_related}
 use Rattle.link_names.specs.Numbers.{from-to, only}
 use Rattle.link_names.specs.declared.Numbers.{Numbers}
 use Rattle.scheme_names.specs.declared.HowRelated.{HowRelated}
 use Rattle.scheme_names.specs.declared.HowRelated.TheVariants.{Cs2004, Cs2005, Cs2007, DvbReserved, UserPrivate}
-use Rattle.scheme_names.specs.declared.NamedScheme.{NamedScheme}
-use Rattle.scheme_names.specs.declared.NamedScheme.TheVariants.{Known, Nothing}
 
 -- all numbers of a scheme's class
 abbrev pub scheme_numbers : HowRelated → Numbers
@@ -28,10 +26,10 @@ scheme_number (DvbReserved n) = n
 scheme_number (UserPrivate n) = n
 
 -- the scheme of a number, and nothing where the field does not hold it
-abbrev pub scheme_of : ℕ → NamedScheme
+abbrev pub scheme_of : ℕ → Option HowRelated
 scheme_of n =
-    pick (eqb n (scheme_number Cs2004)) (Known Cs2004)
-    (pick (eqb n (scheme_number Cs2005)) (Known Cs2005)
-    (pick (eqb n (scheme_number Cs2007)) (Known Cs2007)
-    (pick (leb n (scheme_numbers (DvbReserved n)).last) (Known (DvbReserved n))
-    (pick (leb n how_related.widest) (Known (UserPrivate n)) Nothing))))
+    pick (eqb n (scheme_number Cs2004)) (Some Cs2004)
+    (pick (eqb n (scheme_number Cs2005)) (Some Cs2005)
+    (pick (eqb n (scheme_number Cs2007)) (Some Cs2007)
+    (pick (leb n (scheme_numbers (DvbReserved n)).last) (Some (DvbReserved n))
+    (pick (leb n how_related.widest) (Some (UserPrivate n)) None))))

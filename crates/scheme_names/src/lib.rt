@@ -16,13 +16,6 @@ pub enum HowRelated {
     UserPrivate(u16),
 }
 
-// The scheme of a number, if the field can hold that number.
-#[derive(Drop)]
-pub enum NamedScheme {
-    Known(HowRelated),
-    Nothing,
-}
-
 const CS_2004: u16 = 0;
 
 const CS_2005: u16 = 1;
@@ -38,21 +31,21 @@ const FIRST_PRIVATE: u16 = LAST_RESERVED + 1;
 const LAST: u16 = Field::HOW_RELATED.widest as u16;
 
 impl HowRelated {
-    pub fn of_number(number: u16) -> NamedScheme
+    pub fn of_number(number: u16) -> Option<HowRelated>
         ensures { result ≡ scheme_of number }
     {
         match number {
-            CS_2004 => NamedScheme::Known(HowRelated::Cs2004),
-            CS_2005 => NamedScheme::Known(HowRelated::Cs2005),
-            CS_2007 => NamedScheme::Known(HowRelated::Cs2007),
+            CS_2004 => Some(HowRelated::Cs2004),
+            CS_2005 => Some(HowRelated::Cs2005),
+            CS_2007 => Some(HowRelated::Cs2007),
             _ => {
                 if number <= LAST_RESERVED {
-                    return NamedScheme::Known(HowRelated::DvbReserved(number));
+                    return Some(HowRelated::DvbReserved(number));
                 }
                 if LAST < number {
-                    return NamedScheme::Nothing;
+                    return None;
                 }
-                NamedScheme::Known(HowRelated::UserPrivate(number))
+                Some(HowRelated::UserPrivate(number))
             }
         }
     }

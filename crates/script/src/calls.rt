@@ -1,9 +1,10 @@
 // What a line of a script is: the name of a call, what it says, and nothing behind that.
-use crate::read::read_short;
-use crate::scan::Scan;
+use crate::read::goes_on;
+use crate::scan::{Fault, Scan};
 use console::Short;
-use console::print::{put_number, put_word, say};
+use console::print::{put_number, put_refusal, put_word, say};
 use std::io;
+use wire::verdict::Refusal;
 
 const ERROR: Short = *b"error line _____________";
 
@@ -20,33 +21,58 @@ pub const OK: Short = *b"ok______________________";
 // The answer to a call that lends or hands in.
 pub const SET: Short = *b"set_____________________";
 
-// Which of some calls a line has, the first being 1, or 0 for none of them, and the place behind its name.
+// Why a call is not carried out to its end: what is wrong with its line, or what fails under an answer.
 #[derive(Drop)]
-pub struct Call {
-    pub number: usize,
-    pub scan: Scan,
+pub enum Stop {
+    Line(Fault),
+    Answer(io::Error),
+}
+
+impl From<Fault> for Stop {
+    fn from(fault: Fault) -> Stop {
+        Stop::Line(fault)
+    }
+}
+
+impl From<io::Error> for Stop {
+    fn from(error: io::Error) -> Stop {
+        Stop::Answer(error)
+    }
 }
 
 // Past the name of a call, if the line has it.
-fn called(line: &[u8], start: Scan, name: Short) -> Scan {
-    let s = read_short(line, start, name).scan;
-    if s.is_at(line, b' ') { s } else { s.end(line) }
+fn called<'a>(line: &'a [u8], name: Short) -> Option<Scan<'a>> {
+    let mut scan = Scan::start(line);
+    if !goes_on(&mut scan, name) {
+        return None;
+    }
+    if scan.is_at(b' ') || scan.end().is_ok() {
+        return Some(scan);
+    }
+    None
 }
 
-pub fn call_of(line: &[u8], line_number: usize, names: &[Short]) -> Call {
-    let start = Scan::start(line_number);
-    let mut number: usize = 0;
-    while number < names.len() {
-        let name = names[number];
-        let scan = called(line, start, name);
-        number += 1;
-        if scan.is_fine {
-            return Call { number, scan };
+// Which of some calls a line has, and the place behind its name.
+pub fn call_of<'a, C: Copy>(line: &'a [u8], calls: &[(Short, C)]) -> Option<(C, Scan<'a>)> {
+    for (name, call) in calls {
+        if let Some(scan) = called(line, *name) {
+            return Some((*call, scan));
         }
     }
-    Call {
-        number: 0,
-        scan: start,
+    None
+}
+
+// The start of the answer to a call that reads: what was read is still to be printed, a refusal is the whole answer.
+pub fn put_start<T: Drop>(rt: &impl Print, read: Result<T, Refusal>) -> io::Result<Option<T>> {
+    match read {
+        Ok(found) => {
+            say(rt, OK)?;
+            Ok(Some(found))
+        }
+        Err(refusal) => {
+            put_refusal(rt, refusal)?;
+            Ok(None)
+        }
     }
 }
 
@@ -57,22 +83,10 @@ pub fn put_error(rt: &impl Print, line_number: usize) -> io::Result<()> {
 }
 
 // What is wrong with a line, and at which of its characters, the first being 1.
-fn put_fault(rt: &impl Print, s: Scan) -> io::Result<()> {
-    let fault = s.fault;
-    let missing = s.missing;
-    put_error(rt, s.line_number)?;
+pub fn put_fault(rt: &impl Print, line_number: usize, fault: Fault) -> io::Result<()> {
+    put_error(rt, line_number)?;
     say(rt, COLUMN)?;
-    put_number(rt, std::num::wrapping_add_usize(s.at, 1))?;
-    put_word(rt, fault)?;
-    put_word(rt, missing)
-}
-
-// Whether a line is read without a fault up to its end. Where it is not, that is the answer.
-pub fn is_understood(rt: &impl Print, line: &[u8], s: Scan) -> io::Result<bool> {
-    let s = s.end(line);
-    if s.is_fine {
-        return Ok(true);
-    }
-    put_fault(rt, s)?;
-    Ok(false)
+    put_number(rt, std::num::wrapping_add_usize(fault.at, 1))?;
+    put_word(rt, fault.fault)?;
+    put_word(rt, fault.missing)
 }

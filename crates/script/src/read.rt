@@ -1,56 +1,13 @@
 // Reading words and numbers of a line by a form.
 use crate::form::{Part, is_letter, word_at};
-use crate::scan::Scan;
+use crate::scan::{Fault, Scan};
 use console::Short;
 
-// The numbers of a form, in its order; a form has twelve at most.
-#[derive(Drop)]
-pub struct Numbers(
-    pub u16,
-    pub u16,
-    pub u16,
-    pub u16,
-    pub u16,
-    pub u16,
-    pub u16,
-    pub u16,
-    pub u16,
-    pub u16,
-    pub u16,
-    pub u16,
-);
+// The most numbers that a form has.
+const MOST_NUMBERS: usize = 12;
 
-impl Numbers {
-    fn none() -> Numbers {
-        Numbers(0, 0, 0, 0, 0, 0, 0, 0, 0, 0, 0, 0)
-    }
-
-    fn with(mut self, i: usize, value: u16) -> Numbers {
-        match i {
-            0 => self.0 = value,
-            1 => self.1 = value,
-            2 => self.2 = value,
-            3 => self.3 = value,
-            4 => self.4 = value,
-            5 => self.5 = value,
-            6 => self.6 = value,
-            7 => self.7 = value,
-            8 => self.8 = value,
-            9 => self.9 = value,
-            10 => self.10 = value,
-            _ => self.11 = value,
-        }
-        self
-    }
-}
-
-// What a form found: where the scan stands behind it, and so many numbers.
-#[derive(Drop)]
-pub struct Filled {
-    pub scan: Scan,
-    pub numbers: Numbers,
-    pub count: usize,
-}
+// The numbers of a form, in its order, and zeros behind them.
+pub type Numbers = [u16; MOST_NUMBERS];
 
 // A place in a form: a character there, and where the word starts that it is of, or else the next one.
 #[derive(Drop)]
@@ -64,70 +21,57 @@ fn word_from(c: u8, word: usize, next: usize) -> usize {
     if is_letter(c) { word } else { next }
 }
 
-fn less(at: usize, passed: usize) -> usize {
-    if passed < at { at - passed } else { 0 }
-}
-
 // Past a character. Where it is missing, so is the whole word.
-fn past(scan: Scan, line: &[u8], form: &[u8], place: Place) -> Scan {
+fn past(scan: &mut Scan<'_>, form: &[u8], place: Place) -> Result<(), Fault> {
     if place.c == b'_' {
-        return scan;
+        return Ok(());
     }
-    if scan.is_at(line, place.c) {
-        return scan.moved(std::num::wrapping_add_usize(scan.at, 1), scan.value);
+    if scan.is_at(place.c) {
+        scan.pass();
+        return Ok(());
     }
-    let start = less(scan.at, less(place.at, place.word));
-    scan.lacks(start, word_at(form, place.word))
+    let passed = place.at.saturating_sub(place.word);
+    let start = scan.at.saturating_sub(passed);
+    Err(Fault::lacks(start, word_at(form, place.word)))
 }
 
-impl Filled {
-    fn start(scan: Scan) -> Filled {
-        Filled {
-            scan,
-            numbers: Numbers::none(),
-            count: 0,
-        }
+// Keeps the next number.
+fn keep(numbers: &mut Numbers, count: usize, number: u16) -> usize {
+    if count < MOST_NUMBERS {
+        numbers[count] = number;
     }
-
-    fn moved(mut self, scan: Scan) -> Filled {
-        self.scan = scan;
-        self
-    }
-
-    // With the number that was read last.
-    fn holding(self, scan: Scan) -> Filled {
-        Filled {
-            scan,
-            numbers: self.numbers.with(self.count, scan.value),
-            count: std::num::wrapping_add_usize(self.count, 1),
-        }
-    }
-
-    fn step(self, line: &[u8], form: &[u8], place: Place) -> Filled {
-        let scan = self.scan;
-        let part = Part::of(place.c);
-        if part.base > 0 {
-            return self.holding(scan.number(line, part));
-        }
-        self.moved(past(scan, line, form, place))
-    }
+    std::num::wrapping_add_usize(count, 1)
 }
 
 // Reads what a form says, from where the scan stands.
-pub fn read(line: &[u8], scan: Scan, form: &[u8]) -> Filled {
-    let mut filled = Filled::start(scan);
+pub fn read(scan: &mut Scan<'_>, form: &[u8]) -> Result<Numbers, Fault> {
+    let mut numbers = [0u16; MOST_NUMBERS];
+    let mut count: usize = 0;
     let mut word: usize = 0;
-    let mut at: usize = 0;
-    while at < form.len() {
-        let c = form[at];
-        word = word_from(c, word, at + 1);
-        filled = filled.step(line, form, Place { at, c, word });
-        at += 1;
+    for (at, c) in form.iter().enumerate() {
+        word = word_from(*c, word, std::num::wrapping_add_usize(at, 1));
+        match Part::of(*c) {
+            Some(part) => {
+                let number = scan.number(part)?;
+                count = keep(&mut numbers, count, number);
+            }
+            None => past(scan, form, Place { at, c: *c, word })?,
+        }
     }
-    filled
+    Ok(numbers)
 }
 
 // The same by a short form.
-pub fn read_short(line: &[u8], scan: Scan, form: Short) -> Filled {
-    read(line, scan, &form)
+pub fn read_short(scan: &mut Scan<'_>, form: Short) -> Result<Numbers, Fault> {
+    read(scan, &form)
+}
+
+// Reads what a short form says if the line goes on so, and answers whether it does.
+pub fn goes_on(scan: &mut Scan<'_>, form: Short) -> bool {
+    let mut ahead = *scan;
+    if read_short(&mut ahead, form).is_err() {
+        return false;
+    }
+    *scan = ahead;
+    true
 }

@@ -1,5 +1,5 @@
-// A place in a line that moves on, with the line's number, the number read last and the first fault met. After a fault nothing moves any
-// more, so that a reader of many words asks once, at the end. Places are added by wrapping sums, as in the crate console.
+// A place in a line that moves on over what is read there, and what is wrong with a line. Places are added by wrapping sums, as
+// in the crate console.
 use crate::form::{HEX, NOTHING, Part};
 use console::Word;
 use console::digits::digit;
@@ -17,14 +17,45 @@ const END: Word = *b"end_______";
 // The widest number that a line has.
 const WIDEST: usize = u16::MAX as usize;
 
+// What is wrong with a line, at which of its characters, and what was expected there.
 #[derive(Clone, Copy)]
-pub struct Scan {
-    pub line_number: usize,
+pub struct Fault {
     pub at: usize,
-    pub value: u16,
-    pub is_fine: bool,
     pub fault: Word,
     pub missing: Word,
+}
+
+impl Fault {
+    pub fn lacks(at: usize, missing: Word) -> Fault {
+        Fault {
+            at,
+            fault: EXPECTED,
+            missing,
+        }
+    }
+
+    fn too_large(at: usize) -> Fault {
+        Fault {
+            at,
+            fault: TOO_LARGE,
+            missing: NOTHING,
+        }
+    }
+
+    fn too_long(at: usize) -> Fault {
+        Fault {
+            at,
+            fault: TOO_LONG,
+            missing: NOTHING,
+        }
+    }
+}
+
+// A line, and the place in it that is read next.
+#[derive(Clone, Copy)]
+pub struct Scan<'a> {
+    pub line: &'a [u8],
+    pub at: usize,
 }
 
 // One more digit; what is too wide stays too wide.
@@ -46,115 +77,89 @@ pub struct Digits {
     pub at: usize,
 }
 
-pub fn take_digits(line: &[u8], at: usize, base: usize, most: usize) -> Digits {
+pub fn take_digits(line: &[u8], from: usize, base: usize, most: usize) -> Digits {
     let mut value: usize = 0;
-    let mut at = at;
-    let mut count: usize = 0;
-    while count < most {
+    let mut at = from;
+    for count in 0..most {
         let d = digit(char_at(line, at));
         if d >= base {
             return Digits { value, count, at };
         }
         value = grown(value, base, d);
         at = std::num::wrapping_add_usize(at, 1);
-        count += 1;
     }
-    Digits { value, count, at }
+    Digits {
+        value,
+        count: most,
+        at,
+    }
 }
 
-impl Scan {
-    pub fn start(line_number: usize) -> Scan {
-        Scan {
-            line_number,
-            at: 0,
-            value: 0,
-            is_fine: true,
-            fault: NOTHING,
-            missing: NOTHING,
-        }
+impl<'a> Scan<'a> {
+    pub fn start(line: &'a [u8]) -> Scan<'a> {
+        Scan { line, at: 0 }
     }
 
-    pub fn is_at(self, line: &[u8], c: u8) -> bool {
-        char_at(line, self.at) == c
+    pub fn is_at(&self, c: u8) -> bool {
+        char_at(self.line, self.at) == c
     }
 
-    // The first fault stays, and the place where it was met.
-    fn fails(self, at: usize, fault: Word, missing: Word) -> Scan {
-        if self.is_fine {
-            return Scan {
-                line_number: self.line_number,
-                at,
-                value: 0,
-                is_fine: false,
-                fault,
-                missing,
-            };
-        }
-        self
-    }
-
-    pub fn lacks(self, at: usize, missing: Word) -> Scan {
-        self.fails(at, EXPECTED, missing)
-    }
-
-    // What was counted is at most this.
-    pub fn counted(self, count: u16, most: u16) -> Scan {
-        if count > most {
-            return self.fails(self.at, TOO_LONG, NOTHING);
-        }
-        self.moved(self.at, count)
-    }
-
-    pub fn moved(mut self, at: usize, value: u16) -> Scan {
-        if self.is_fine {
-            self.at = at;
-            self.value = value;
-        }
-        self
+    // Past a character.
+    pub fn pass(&mut self) {
+        self.at = std::num::wrapping_add_usize(self.at, 1);
     }
 
     // Nothing follows.
-    pub fn end(self, line: &[u8]) -> Scan {
-        if self.at < line.len() {
-            return self.lacks(self.at, END);
+    pub fn end(&self) -> Result<(), Fault> {
+        if self.at < self.line.len() {
+            return Err(Fault::lacks(self.at, END));
         }
-        self
+        Ok(())
+    }
+
+    // What was counted is at most this.
+    pub fn counted(&self, count: u16, most: u16) -> Result<(), Fault> {
+        if count > most {
+            return Err(Fault::too_long(self.at));
+        }
+        Ok(())
     }
 
     // A number that stands right here.
-    pub fn number(self, line: &[u8], part: Part) -> Scan {
-        let missing = part.missing;
-        let found = take_digits(line, self.at, part.base, part.most);
+    pub fn number(&mut self, part: Part) -> Result<u16, Fault> {
+        let found = take_digits(self.line, self.at, part.base, part.most);
         if found.count < part.least {
-            return self.lacks(self.at, missing);
+            return Err(Fault::lacks(self.at, part.missing));
         }
         if found.value > part.widest as usize {
-            return self.fails(found.at, TOO_LARGE, NOTHING);
+            return Err(Fault::too_large(found.at));
         }
-        self.moved(found.at, found.value as u16)
+        self.at = found.at;
+        Ok(found.value as u16)
     }
 
-    // Bytes in two digits each up to the line's end; how many, at most `most`, is the value.
-    pub fn bytes(self, line: &[u8], most: u16) -> Scan {
-        let found = take_digits(line, self.at, 16, line.len());
+    // Bytes in two digits each up to the line's end: how many, at most `most`.
+    pub fn bytes(&mut self, most: u16) -> Result<u16, Fault> {
+        let found = take_digits(self.line, self.at, 16, self.line.len());
         let count = found.count / 2;
         if count > most as usize {
-            return self.fails(behind(self.at, most as usize), TOO_LONG, NOTHING);
+            return Err(Fault::too_long(behind(self.at, most as usize)));
         }
         let place = behind(self.at, count);
-        if place < line.len() {
-            return self.lacks(place, HEX);
+        if place < self.line.len() {
+            return Err(Fault::lacks(place, HEX));
         }
-        self.moved(place, count as u16)
+        self.at = place;
+        Ok(count as u16)
+    }
+
+    // The byte of a number among bytes in two digits each that start here.
+    pub fn byte(&self, i: usize) -> u8 {
+        (take_digits(self.line, behind(self.at, i), 16, 2).value % 256) as u8
     }
 }
 
 // The place behind so many bytes in two digits each.
-pub fn behind(at: usize, count: usize) -> usize {
+fn behind(at: usize, count: usize) -> usize {
     std::num::wrapping_add_usize(at, std::num::wrapping_add_usize(count, count))
-}
-
-// The byte in two digits at a place.
-pub fn byte_at(line: &[u8], at: usize) -> u8 {
-    (take_digits(line, at, 16, 2).value % 256) as u8
 }

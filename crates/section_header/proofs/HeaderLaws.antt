@@ -12,8 +12,7 @@ use Rattle.wire.specs.Lists.{Bytes, firsts}
 use Rattle.wire.specs.Numbers.{be16}
 use Rattle.length_field.specs.Lengths.{longest, length_bytes, length_at, beside_of, beside_at}
 use Rattle.wire.specs.Refusals.{too_wide, no_syntax_indicator}
-use Rattle.wire.specs.Verdict.{bad, ◌▷◌}
-use Rattle.wire.specs.declared.verdict.Verdict.TheVariants.{Fine}
+use Rattle.wire.specs.Verdict.{bad, ◌▷◌, Fine}
 use Rattle.wire.proofs.Among.{Among, among-row, among_then, among-more}
 use Rattle.wire.proofs.Lists.{bytes-at}
 use Rattle.wire.proofs.Verdicts.{then-fine, fine-then, go_on, stop, due-passed, due-pass, due-broken}

@@ -3,8 +3,7 @@
 -- Assumes nothing.
 use Rattle.std.specs.Prelude.{not}
 use Rattle.wire.specs.Refusals.{no_syntax_indicator}
-use Rattle.wire.specs.Verdict.{refuse, ◌▷◌}
-use Rattle.wire.specs.declared.verdict.Verdict.{Verdict}
+use Rattle.wire.specs.Verdict.{refuse, ◌▷◌, Verdict}
 use Rattle.field.specs.Fields.{low, section_reserved, version_number, version_reserved, check_field}
 use Rattle.section_header.specs.Syntax.{header_of}
 use Rattle.section_header.specs.declared.SectionHeader.{SectionHeader}

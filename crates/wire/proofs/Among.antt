@@ -9,10 +9,9 @@ use native.Mathlib.Omega.{arith}
 use lib.Dec.{eqb}
 use borrow.Author.Tests.{eqb-true, eq-eqb}
 use Rattle.wire.specs.Choice.{pick}
-use Rattle.wire.specs.Verdict.{bad, refuse, ◌▷◌}
+use Rattle.wire.specs.Verdict.{bad, refuse, ◌▷◌, Fine, Verdict}
 use Rattle.wire.specs.declared.verdict.Refusal.{Refusal}
-use Rattle.wire.specs.declared.verdict.Verdict.{Verdict}
-use Rattle.wire.specs.declared.verdict.Verdict.TheVariants.{Fine, Refused}
+use Rattle.std.specs.Prelude.{Err, Ok}
 
 -- n is on the list; all of one list are on another
 abbrev pub listed : ℕ → List ℕ → Bool
@@ -36,7 +35,7 @@ listed-behind n m ms h = by (eqb n m)
 
 -- if it refuses, then with a number of the list
 abbrev pub Among : List ℕ → Verdict → Type 0
-Among ns v = (r : Refusal) → v ≡ Refused r → listed r.number ns ≡ true
+Among ns v = (r : Refusal) → v ≡ Err r → listed r.number ns ≡ true
 
 both_true : (b c : Bool) → pick b c false ≡ true → (b ≡ true) × (c ≡ true)
 both_true true c e = (refl, e)
@@ -55,7 +54,7 @@ listed_more (m ∷ ns) ms n a e =
 pub among-fine : (ns : List ℕ) → Among ns Fine
 among-fine ns r e = let z : ◌≡◌ {A = ℕ} 0 1 = cc in absurd (omega arith)
 
-number_of : (r q : Refusal) → Refused r ≡ Refused q → r.number ≡ q.number
+number_of : (r q : Refusal) → ◌≡◌ {A = Verdict} (Err r) (Err q) → r.number ≡ q.number
 number_of r q e = cc
 
 pub among-row : (ns : List ℕ) (b : Bool) (n f g : ℕ) → listed n ns ≡ true → Among ns (refuse b n f g)
@@ -65,8 +64,8 @@ among-row ns false n f g h r e = among-fine ns r e
 
 pub among_then : (ns : List ℕ) (v w : Verdict) → Among ns v → Among ns w → Among ns (v ▷ w)
 unfolding ◌▷◌
-among_then ns Fine w p q = q
-among_then ns (Refused r) w p q = p
+among_then ns (Ok _) w p q = q
+among_then ns (Err r) w p q = p
 
 pub among-more : (ns ms : List ℕ) (v : Verdict) → all_listed ns ms ≡ true → Among ns v → Among ms v
 among-more ns ms v a p r e = listed_more ns ms r.number a (p r e)
@@ -88,26 +87,26 @@ row-never n m b f g h = among-never (m ∷ []) _ n (among-row (m ∷ []) b m f g
 
 pub never-then : (n : ℕ) (v w : Verdict) → Never n v → Never n w → Never n (v ▷ w)
 unfolding ◌▷◌
-never-then n Fine w p q = q
-never-then n (Refused r) w p q = p
+never-then n (Ok _) w p q = q
+never-then n (Err r) w p q = p
 
 -- of a refusal by a number, rows that never answer it: those before it were passed, those behind it count for nothing
 module _ (n f g : ℕ) where
   pub never-past : (v w : Verdict) → Never n v → v ▷ w ≡ bad n f g → (v ≡ Fine) × (w ≡ bad n f g)
   unfolding ◌▷◌
-  never-past Fine w p e = (refl, e)
-  never-past (Refused r) w p e = absurd (p f g e)
+  never-past (Ok _) w p e = (refl, e)
+  never-past (Err r) w p e = absurd (p f g e)
 
   pub never-behind : (v w : Verdict) → Never n w → v ▷ w ≡ bad n f g → v ≡ bad n f g
   unfolding ◌▷◌
-  never-behind Fine w p e = absurd (p f g e)
-  never-behind (Refused r) w p e = e
+  never-behind (Ok _) w p e = absurd (p f g e)
+  never-behind (Err r) w p e = e
 
   -- of rows that both may answer it: the first does, or is passed and the second does
   pub either-row : (v w : Verdict) → v ▷ w ≡ bad n f g → (v ≡ bad n f g) ⊎ ((v ≡ Fine) × (w ≡ bad n f g))
   unfolding ◌▷◌
-  either-row Fine w e = inr (refl, e)
-  either-row (Refused r) w e = inl e
+  either-row (Ok _) w e = inr (refl, e)
+  either-row (Err r) w e = inl e
 
 -- two lists that share no number
 abbrev pub all_apart : List ℕ → List ℕ → Bool

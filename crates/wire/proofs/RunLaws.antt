@@ -13,13 +13,12 @@ use borrow.Author.Tests.{lt-ltb, le-ltb, ltb-true, ltb-false}
 use Rattle.wire.specs.Choice.{pick}
 use Rattle.wire.specs.Lists.{Bytes}
 use Rattle.wire.specs.Runs.{places_in, places_to, each_row, in_order, AllFit}
-use Rattle.wire.specs.Verdict.{◌▷◌}
+use Rattle.wire.specs.Verdict.{◌▷◌, Fine, Verdict}
 use Rattle.wire.specs.declared.verdict.Refusal.{Refusal}
-use Rattle.wire.specs.declared.verdict.Verdict.{Verdict}
-use Rattle.wire.specs.declared.verdict.Verdict.TheVariants.{Fine, Refused}
 use Rattle.wire.proofs.Among.{Among, among-fine, among_then}
 use Rattle.wire.proofs.Lists.{bytes-append, drop_past}
 use Rattle.wire.proofs.Verdicts.{then-fine, fine-then, go_on, refused-then}
+use Rattle.std.specs.Prelude.{Err}
 
 -- ---- the places, one by one
 
@@ -153,7 +152,7 @@ module _ (next : ℕ → ℕ) (up : (q : ℕ) → q < next q) (row : ℕ → Ver
   pub run_on : row p ≡ Fine → each_row row (places_to next e p) ≡ each_row row (places_to next e (next p))
   run_on v = ap (λ ps. each_row row ps) (places-more next up e p h) ∙ go_on _ _ v
 
-  pub run-stop : (r : Refusal) → row p ≡ Refused r → each_row row (places_to next e p) ≡ Refused r
+  pub run-stop : (r : Refusal) → row p ≡ Err r → each_row row (places_to next e p) ≡ Err r
   run-stop r v = ap (λ ps. each_row row ps) (places-more next up e p h) ∙ refused-then _ _ r v
 
   -- their number, the place of the next, and those behind it

@@ -3,9 +3,7 @@
 -- Assumes nothing.
 use Rattle.std.specs.Prelude.{ℕ, zero, suc, ◌-◌, List, [], ◌∷◌, ◌++◌, ltb}
 use Rattle.wire.specs.Choice.{pick}
-use Rattle.wire.specs.Verdict.{◌▷◌}
-use Rattle.wire.specs.declared.verdict.Verdict.{Verdict}
-use Rattle.wire.specs.declared.verdict.Verdict.TheVariants.{Fine}
+use Rattle.wire.specs.Verdict.{◌▷◌, Fine, Verdict}
 
 -- the places of those from p up to e, n at most
 abbrev pub places_in : ℕ → (ℕ → ℕ) → ℕ → ℕ → List ℕ

@@ -1,8 +1,6 @@
-use Prim.Native.Nat.{◌-◌}
 use mathlib.Core.Path.{◌∙◌}
 use native.Mathlib.Omega.{arith}
 use Rattle.byte_moves.proofs.Exact.{moves, stays-from, stays-to, stays-there}
-use borrow.Author.Rules.{rules}
 use Rattle.byte_moves.proofs.move_within.Goals as goal
 
 pub returns-then-b-n : goal.returns-then-b-n

@@ -1,5 +1,5 @@
 use borrow.Author.Rules.{rules}
 use Rattle.flat_link.proofs.uri_range.Goals as goal
 
-pub returns-in-Absent : goal.returns-in-Absent
-returns-in-Absent c = rw c.in-Absent.is
+pub returns-in-None : goal.returns-in-None
+returns-in-None c = rw c.in-None.is

@@ -2,10 +2,10 @@ use Rattle.flat_refusal.specs.Refusals.{refusal_of}
 use borrow.Author.Rules.{rules}
 use Rattle.flat_refusal.proofs.refusal_of.Goals as goal
 
-pub returns-in-Fine : goal.returns-in-Fine
+pub returns-in-Ok : goal.returns-in-Ok
 unfolding refusal_of
-returns-in-Fine c = rw c.in-Fine.is c.fine.ensures
+returns-in-Ok c = rw c.in-Ok.is c.fine.ensures
 
-pub returns-in-Refused : goal.returns-in-Refused
+pub returns-in-Err : goal.returns-in-Err
 unfolding refusal_of
-returns-in-Refused c = rw c.in-Refused.is
+returns-in-Err c = rw c.in-Err.is

@@ -1,5 +1,4 @@
 use Rattle.item_walker.proofs.Stages.{item-12, item-13, item-past}
-use borrow.Author.Rules.{rules}
 use Rattle.item_walker.proofs.past.Goals as goal
 
 pub returns-then-have-head : goal.returns-then-have-head

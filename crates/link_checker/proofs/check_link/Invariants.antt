@@ -1,19 +1,9 @@
-use Prim.Native.Nat.{◌*◌, ◌-◌, ◌≤◌}
-use mathlib.Core.Path.{◌≡◌, ap, ◌∙◌}
-use native.Mathlib.Omega.{arith}
-use lib.ListN.{length, take, drop}
-use Rattle.field.specs.Fields.{number_items}
-use Rattle.link.specs.Records.{no_item}
-use Rattle.link_draft.proofs.Carriers.{array-length}
-use Rattle.link_checker.specs.Stages.{joined, texts_checked, all_checked, most_range}
-use Rattle.link_checker.proofs.Texts.{texts-start, texts-on, texts-done, all-checked}
-use borrow.Author.Rules.{rules}
+use Prim.Native.Nat.{◌*◌, ◌≤◌}
+use mathlib.Core.Path.{◌≡◌}
+use lib.ListN.{drop}
+use Rattle.link_checker.specs.Stages.{joined, texts_checked, most_range}
 use Rattle.link_checker.proofs.check_link.Given as goal
 
-abbrev pub invariant-loop-i : goal.invariant-loop-i
-invariant-loop-i l =
-    let counted = take l.fields.number_items l.items in
-    (l.i ≤ l.n) × ((length l.items ≡ number_items.widest) × ((joined l.texts (texts_checked l.have (drop l.i counted)) ≡ texts_checked l.have counted) × (l.texts.length ≤ l.i * most_range)))
-
-abbrev pub decreases-loop-i : goal.decreases-loop-i
-decreases-loop-i l = l.n - l.i
+abbrev pub invariant-loop-item : goal.invariant-loop-item
+invariant-loop-item l =
+    (joined l.texts (texts_checked l.have (drop l.item-index l.item-items)) ≡ texts_checked l.have l.item-items) × (l.texts.length ≤ l.item-index * most_range)

@@ -5,13 +5,13 @@ use Rattle.link_checker.specs.Stages.{locator_checked}
 use borrow.Author.Rules.{rules}
 use Rattle.link_checker.proofs.check_locator.Goals as goal
 
-pub returns-in-Absent : goal.returns-in-Absent
+pub returns-in-None : goal.returns-in-None
 unfolding locator_checked check_locator_fields check_locator_rule locator_size
-returns-in-Absent c = rw c.in-Absent.is (search rules)
+returns-in-None c = rw c.in-None.is (search rules)
 
-pub returns-in-Present : goal.returns-in-Present
+pub returns-in-Some : goal.returns-in-Some
 unfolding locator_checked check_locator_fields check_locator_rule locator_size
-returns-in-Present c =
+returns-in-Some c =
     let check-fields = c.check_fields in
-    let locator = c.in-Present.is in
+    let locator = c.in-Some.is in
     rw locator (rw (c.length_of.ensures, c.check_windows.ensures, check-fields.ensures), rw c.length_of.ensures (length_most _))

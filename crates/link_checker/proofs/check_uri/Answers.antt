@@ -4,11 +4,11 @@ use Rattle.link_checker.specs.Stages.{uri_checked}
 use borrow.Author.Rules.{rules}
 use Rattle.link_checker.proofs.check_uri.Goals as goal
 
-pub returns-in-Absent : goal.returns-in-Absent
+pub returns-in-None : goal.returns-in-None
 unfolding uri_checked check_uri check_uri_range uri_size
-returns-in-Absent c = rw (c.in-Absent.is, c.none.ensures) (search rules)
+returns-in-None c = rw (c.in-None.is, c.none.ensures) (search rules)
 
-pub returns-in-Present : goal.returns-in-Present
+pub returns-in-Some : goal.returns-in-Some
 unfolding uri_checked check_uri check_uri_range uri_size
-returns-in-Present c =
-    rw c.in-Present.is c.check_ranged.ensures
+returns-in-Some c =
+    rw c.in-Some.is c.check_ranged.ensures

@@ -9,14 +9,14 @@ pub loop-number-init : goal.loop-number-init
 unfolding number_after
 loop-number-init c = (omega arith, refl)
 
-pub returns-in-Refused : goal.returns-in-Refused
-returns-in-Refused c =
+pub returns-in-Err : goal.returns-in-Err
+returns-in-Err c =
     let step_from = c.step_from-step in
     let start = c.args in
     let xs = start.body.now in
     let l = c.loop-number in
-    let told = sym (ap (λ s. s.item) step_from.ensures) ∙ c.in-Refused.is in
-    c.in-Refused.is ∙ sym (refused-stays xs l.number start.steps _ l.invariant.0 (ap (item_read 0 xs) l.invariant.1 ∙ told))
+    let told = sym (ap (λ s. s.item) step_from.ensures) ∙ c.in-Err.is in
+    c.in-Err.is ∙ sym (refused-stays xs l.number start.steps _ l.invariant.0 (ap (item_read 0 xs) l.invariant.1 ∙ told))
 
 pub loop-number-preserved : goal.loop-number-preserved
 loop-number-preserved c =
@@ -24,7 +24,7 @@ loop-number-preserved c =
     let xs = c.args.body.now in
     let l = c.loop-number in
     let test = c.loop-number-test.true in
-    let told = sym (ap (λ s. s.item) step_from.ensures) ∙ c.in-Got.is in
+    let told = sym (ap (λ s. s.item) step_from.ensures) ∙ c.in-Ok.is in
     (omega arith, number-on xs l.number _ l.invariant.1 told)
 
 pub returns : goal.returns

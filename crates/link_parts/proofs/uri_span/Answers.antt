@@ -9,18 +9,18 @@ pub returns-then-uri_end-lt-URI_START : goal.returns-then-uri_end-lt-URI_START
 returns-then-uri_end-lt-URI_START c =
     let s = c.args.s.now in
     let found = c.body_places-places.ensures in
-    let f = places-at s _ _ _ (sym found ∙ c.in-At.is) in
+    let f = places-at s _ _ _ (sym found ∙ c.in-Ok.is) in
     uri-ends-not s (rw f.uri at c.if-uri_end-lt-URI_START.true)
 
 pub returns-else-uri_end-lt-URI_START : goal.returns-else-uri_end-lt-URI_START
 returns-else-uri_end-lt-URI_START c =
     let s = c.args.s.now in
     let found = c.body_places-places.ensures in
-    let f = places-at s _ _ _ (sym found ∙ c.in-At.is) in
+    let f = places-at s _ _ _ (sym found ∙ c.in-Ok.is) in
     rw f.uri (uri-ends s f.fine (rw f.uri at c.if-uri_end-lt-URI_START.false))
 
-pub returns-in-Refused : goal.returns-in-Refused
-returns-in-Refused c =
+pub returns-in-Err : goal.returns-in-Err
+returns-in-Err c =
     let s = c.args.s.now in
     let found = c.body_places-places.ensures in
-    sym (no-uri-refused s _ (places-refused s _ (sym found ∙ c.in-Refused.is)))
+    sym (no-uri-refused s _ (places-refused s _ (sym found ∙ c.in-Err.is)))

@@ -2,8 +2,9 @@ use Rattle.link_reader.proofs.Numbered.{count-within, numbered-21, numbered-neve
 use Rattle.link.proofs.Bounds.{count-far}
 use Rattle.wire.proofs.Lists.{bytes-known}
 use borrow.Author.Rules.{rules}
-use mathlib.Core.Path.{refl}
+use mathlib.Core.Path.{refl, ◌∙◌}
 use native.Mathlib.Omega.{arith}
+use Rattle.wire.proofs.Verdicts.{handed-on}
 use Rattle.link_reader.proofs.item_numbered.Goals as goal
 
 pub bounds-s-count_at : goal.bounds-s-count_at
@@ -27,10 +28,10 @@ overflow_cast-count_at c = omega (arith, count-far c.args.s.now (bytes-known c.a
 pub item_at-requires : goal.item_at-requires
 item_at-requires c =
     let s = c.args.s.now in
-    numbered_within s c.args.count_at _ c.args.number c.requires.0 c.requires.1 c.low-n.ensures c.if-n-number.false _ c.past_items-place.ensures _ c.in-At.is c.args.base (bytes-known s c.type_inv.s) (omega arith)
+    numbered_within s c.args.count_at _ c.args.number c.requires.0 c.requires.1 c.low-n.ensures c.if-n-number.false _ c.past_items.ensures _ c.in_ok-p.was c.args.base (bytes-known s c.type_inv.s) (omega arith)
 
-pub returns-in-At : goal.returns-in-At
-returns-in-At c = numbered-got c.args.s.now c.args.count_at _ c.args.number c.requires.0 c.requires.1 c.low-n.ensures c.if-n-number.false _ c.past_items-place.ensures _ c.in-At.is c.args.base _ c.item_at.ensures
+pub returns : goal.returns
+returns c = numbered-got c.args.s.now c.args.count_at _ c.args.number c.requires.0 c.requires.1 c.low-n.ensures c.if-n-number.false _ c.past_items.ensures _ c.in_ok-p.was c.args.base _ c.item_at.ensures
 
-pub returns-in-Refused : goal.returns-in-Refused
-returns-in-Refused c = absurd (numbered-never c.args.s.now c.args.count_at _ c.args.number c.requires.0 c.requires.1 c.low-n.ensures c.if-n-number.false _ c.past_items-place.ensures _ c.in-Refused.is)
+pub returns-in_err-p : goal.returns-in_err-p
+returns-in_err-p c = handed-on _ _ c.from_residual.ensures ∙ absurd (numbered-never c.args.s.now c.args.count_at _ c.args.number c.requires.0 c.requires.1 c.low-n.ensures c.if-n-number.false _ c.past_items.ensures _ c.in_err-p.was)

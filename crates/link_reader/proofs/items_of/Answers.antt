@@ -4,7 +4,7 @@ use native.Mathlib.Omega.{arith}
 use Rattle.wire.proofs.Lists.{bytes-known}
 use Rattle.link.specs.Syntax.{item_head}
 use Rattle.link.specs.Reading.{items_place}
-use Rattle.link_reader.proofs.Filled.{Filled, filled_none, filled_within, filled-turn, filled-all}
+use Rattle.link_reader.proofs.Filled.{filled_none, filled_within, filled-turn, filled-all}
 use Rattle.link_reader.proofs.items_of.Goals as goal
 
 pub overflow_sub-p : goal.overflow_sub-p
@@ -39,12 +39,6 @@ overflow_cast-p-in-loop-i c = omega arith
 
 pub overflow_add-p-in-loop-i : goal.overflow_add-p-in-loop-i
 overflow_add-p-in-loop-i c = omega (arith, (filled_within c.args.base _ _ _ _ _ _ c.loop-i.invariant c.loop-i-test.true (omega arith)).0)
-
-pub overflow_add-i : goal.overflow_add-i
-overflow_add-i c = omega (arith, c.loop-i.invariant.few)
-
-pub loop-i-smaller : goal.loop-i-smaller
-loop-i-smaller c = omega arith
 
 pub loop-i-preserved : goal.loop-i-preserved
 loop-i-preserved c =

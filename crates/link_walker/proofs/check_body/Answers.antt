@@ -1,22 +1,23 @@
 use Rattle.link_walker.proofs.Stages.{came-at, stop-uri, stop-locator, front-past, stop-rest, body-past}
-use mathlib.Core.Path.{sym}
+use mathlib.Core.Path.{sym, ◌∙◌}
 use borrow.Author.Rules.{rules}
+use Rattle.wire.proofs.Verdicts.{handed-on}
 use Rattle.link_walker.proofs.check_body.Goals as goal
 
-pub past_locator-count-requires : goal.past_locator-count-requires
-past_locator-count-requires c = came-at _ _ _ _ c.past_uri-uri.ensures c.in-At.is
+pub past_locator-requires : goal.past_locator-requires
+past_locator-requires c = came-at _ _ _ _ c.past_uri.ensures c.in_ok-uri_end.was
 
-pub past_rest-tail-requires : goal.past_rest-tail-requires
-past_rest-tail-requires c = front-past _ _ c.past_uri-uri.ensures _ c.in-At.is _ c.past_locator-count.ensures _ c.in-At-count.is
+pub past_rest-requires : goal.past_rest-requires
+past_rest-requires c = front-past _ _ c.past_uri.ensures _ c.in_ok-uri_end.was _ c.past_locator.ensures _ c.in_ok-count.was
 
-pub returns-in-At-tail : goal.returns-in-At-tail
-returns-in-At-tail c = sym (body-past _ _ c.past_uri-uri.ensures _ c.in-At.is _ c.past_locator-count.ensures _ c.in-At-count.is _ c.past_rest-tail.ensures _ c.in-At-tail.is).fine
+pub returns : goal.returns
+returns c = sym (body-past _ _ c.past_uri.ensures _ c.in_ok-uri_end.was _ c.past_locator.ensures _ c.in_ok-count.was _ c.past_rest.ensures _ c.in_ok-past_rest.was).fine
 
-pub returns-in-Refused-tail : goal.returns-in-Refused-tail
-returns-in-Refused-tail c = sym (stop-rest _ _ c.past_uri-uri.ensures _ c.in-At.is _ c.past_locator-count.ensures _ c.in-At-count.is _ c.past_rest-tail.ensures _ c.in-Refused-tail.is)
+pub returns-in_err-past_rest : goal.returns-in_err-past_rest
+returns-in_err-past_rest c = handed-on _ _ c.from_residual-in_err-past_rest.ensures ∙ sym (stop-rest _ _ c.past_uri.ensures _ c.in_ok-uri_end.was _ c.past_locator.ensures _ c.in_ok-count.was _ c.past_rest.ensures _ c.in_err-past_rest.was)
 
-pub returns-in-Refused-count : goal.returns-in-Refused-count
-returns-in-Refused-count c = sym (stop-locator _ _ c.past_uri-uri.ensures _ c.in-At.is _ c.past_locator-count.ensures _ c.in-Refused-count.is)
+pub returns-in_err-count : goal.returns-in_err-count
+returns-in_err-count c = handed-on _ _ c.from_residual-in_err-count.ensures ∙ sym (stop-locator _ _ c.past_uri.ensures _ c.in_ok-uri_end.was _ c.past_locator.ensures _ c.in_err-count.was)
 
-pub returns-in-Refused : goal.returns-in-Refused
-returns-in-Refused c = sym (stop-uri _ _ c.past_uri-uri.ensures _ c.in-Refused.is)
+pub returns-in_err-uri_end : goal.returns-in_err-uri_end
+returns-in_err-uri_end c = handed-on _ _ c.from_residual.ensures ∙ sym (stop-uri _ _ c.past_uri.ensures _ c.in_err-uri_end.was)

@@ -1,22 +1,24 @@
 use Rattle.link_walker.proofs.Places.{at_places, refused-places}
 use Rattle.link_walker.proofs.Stages.{came-at, stop-uri, stop-locator, front-past, stop-rest, body-past}
 use borrow.Author.Rules.{rules}
+use Rattle.wire.proofs.Verdicts.{handed-on}
+use mathlib.Core.Path.{◌∙◌}
 use Rattle.link_walker.proofs.fields_places.Goals as goal
 
-pub past_locator-front-requires : goal.past_locator-front-requires
-past_locator-front-requires c = came-at _ _ _ _ c.past_uri-uri.ensures c.in-At.is
+pub past_locator-requires : goal.past_locator-requires
+past_locator-requires c = came-at _ _ _ _ c.past_uri.ensures c.in_ok-uri_end.was
 
-pub past_rest-items-requires : goal.past_rest-items-requires
-past_rest-items-requires c = front-past _ _ c.past_uri-uri.ensures _ c.in-At.is _ c.past_locator-front.ensures _ c.in-At-front.is
+pub past_rest-requires : goal.past_rest-requires
+past_rest-requires c = front-past _ _ c.past_uri.ensures _ c.in_ok-uri_end.was _ c.past_locator.ensures _ c.in_ok-front.was
 
-pub returns-in-At-items : goal.returns-in-At-items
-returns-in-At-items c = at_places _ _ _ _ (body-past _ _ c.past_uri-uri.ensures _ c.in-At.is _ c.past_locator-front.ensures _ c.in-At-front.is _ c.past_rest-items.ensures _ c.in-At-items.is)
+pub returns : goal.returns
+returns c = at_places _ _ _ _ (body-past _ _ c.past_uri.ensures _ c.in_ok-uri_end.was _ c.past_locator.ensures _ c.in_ok-front.was _ c.past_rest.ensures _ c.in_ok-tail.was)
 
-pub returns-in-Refused-items : goal.returns-in-Refused-items
-returns-in-Refused-items c = refused-places _ _ (stop-rest _ _ c.past_uri-uri.ensures _ c.in-At.is _ c.past_locator-front.ensures _ c.in-At-front.is _ c.past_rest-items.ensures _ c.in-Refused-items.is)
+pub returns-in_err-tail : goal.returns-in_err-tail
+returns-in_err-tail c = handed-on _ _ c.from_residual-in_err-tail.ensures ∙ refused-places _ _ (stop-rest _ _ c.past_uri.ensures _ c.in_ok-uri_end.was _ c.past_locator.ensures _ c.in_ok-front.was _ c.past_rest.ensures _ c.in_err-tail.was)
 
-pub returns-in-Refused-front : goal.returns-in-Refused-front
-returns-in-Refused-front c = refused-places _ _ (stop-locator _ _ c.past_uri-uri.ensures _ c.in-At.is _ c.past_locator-front.ensures _ c.in-Refused-front.is)
+pub returns-in_err-front : goal.returns-in_err-front
+returns-in_err-front c = handed-on _ _ c.from_residual-in_err-front.ensures ∙ refused-places _ _ (stop-locator _ _ c.past_uri.ensures _ c.in_ok-uri_end.was _ c.past_locator.ensures _ c.in_err-front.was)
 
-pub returns-in-Refused : goal.returns-in-Refused
-returns-in-Refused c = refused-places _ _ (stop-uri _ _ c.past_uri-uri.ensures _ c.in-Refused.is)
+pub returns-in_err-uri_end : goal.returns-in_err-uri_end
+returns-in_err-uri_end c = handed-on _ _ c.from_residual.ensures ∙ refused-places _ _ (stop-uri _ _ c.past_uri.ensures _ c.in_err-uri_end.was)

@@ -15,14 +15,14 @@ slice_bounds-put_next-end c =
     let written = c.locator_bytes-written.ensures in
     sym (length-take-le _ _ (locator-held _ _ written))
 
-pub returns-in-Absent : goal.returns-in-Absent
+pub returns-in-None : goal.returns-in-None
 unfolding locator_parts
-returns-in-Absent c = rw c.in-Absent.is (puts_none _ _)
+returns-in-None c = rw c.in-None.is (puts_none _ _)
 
-pub returns-in-Present : goal.returns-in-Present
+pub returns-in-Some : goal.returns-in-Some
 unfolding locator_parts
-returns-in-Present c =
+returns-in-Some c =
     let put_next = c.put_next in
     let written = c.locator_bytes-written.ensures in
-    let locator = c.in-Present.is in
+    let locator = c.in-Some.is in
     rw locator (rw (locator-taken _ _ written) at put_next.ensures)

@@ -3,14 +3,14 @@ use Rattle.link_writer.proofs.Stages.{puts_none}
 use borrow.Author.Rules.{rules}
 use Rattle.link_writer.proofs.put_uri.Goals as goal
 
-pub returns-in-Absent : goal.returns-in-Absent
+pub returns-in-None : goal.returns-in-None
 unfolding uri_parts
-returns-in-Absent c = rw c.in-Absent.is (puts_none _ _)
+returns-in-None c = rw c.in-None.is (puts_none _ _)
 
-pub returns-in-Present : goal.returns-in-Present
+pub returns-in-Some : goal.returns-in-Some
 unfolding uri_parts
-returns-in-Present c =
+returns-in-Some c =
     let put-headed = c.put_headed in
-    let uri = c.in-Present.is in
+    let uri = c.in-Some.is in
     let length = c.length_byte.ensures in
     rw uri (rw length at put-headed.ensures)

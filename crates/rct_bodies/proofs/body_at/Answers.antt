@@ -11,7 +11,7 @@ returns-then-places-number c =
     let args = c.args in
     let pre = c.requires in
     let s = args.s.now in
-    rw c.no_such.ensures (body_refused s args.number _ (at-21 s args.number args.places pre.0 pre.1 c.if-places-number.true))
+    c.no_such.ensures ∙ body_refused s args.number _ (at-21 s args.number args.places pre.0 pre.1 c.if-places-number.true)
 
 pub bounds-s-start : goal.bounds-s-start
 bounds-s-start c =
@@ -19,7 +19,7 @@ bounds-s-start c =
     let pre = c.requires in
     let if1 = c.if-places-number in
     let s = args.s.now in
-    let k = at-known s args.number args.places pre.0 pre.1 _ _ (bytes-known s c.type_inv.s) if1.false c.in-At.is in
+    let k = at-known s args.number args.places pre.0 pre.1 _ _ (bytes-known s c.type_inv.s) if1.false c.in-Some.is in
     search rules
 
 pub overflow_add-start : goal.overflow_add-start
@@ -28,16 +28,16 @@ overflow_add-start c =
     let pre = c.requires in
     let if1 = c.if-places-number in
     let s = args.s.now in
-    let k = at-known s args.number args.places pre.0 pre.1 _ _ (bytes-known s c.type_inv.s) if1.false c.in-At.is in
+    let k = at-known s args.number args.places pre.0 pre.1 _ _ (bytes-known s c.type_inv.s) if1.false c.in-Some.is in
     search rules
 
-pub bounds-s-start-in-At : goal.bounds-s-start-in-At
-bounds-s-start-in-At c =
+pub bounds-s-start-in-Some : goal.bounds-s-start-in-Some
+bounds-s-start-in-Some c =
     let args = c.args in
     let pre = c.requires in
     let if1 = c.if-places-number in
     let s = args.s.now in
-    let k = at-known s args.number args.places pre.0 pre.1 _ _ (bytes-known s c.type_inv.s) if1.false c.in-At.is in
+    let k = at-known s args.number args.places pre.0 pre.1 _ _ (bytes-known s c.type_inv.s) if1.false c.in-Some.is in
     search rules
 
 pub overflow_add-result : goal.overflow_add-result
@@ -46,21 +46,21 @@ overflow_add-result c =
     let pre = c.requires in
     let if1 = c.if-places-number in
     let s = args.s.now in
-    let k = at-known s args.number args.places pre.0 pre.1 _ _ (bytes-known s c.type_inv.s) if1.false c.in-At.is in
+    let k = at-known s args.number args.places pre.0 pre.1 _ _ (bytes-known s c.type_inv.s) if1.false c.in-Some.is in
     search rules
 
-pub returns-in-At : goal.returns-in-At
-returns-in-At c =
+pub returns-in-Some : goal.returns-in-Some
+returns-in-Some c =
     let args = c.args in
     let pre = c.requires in
     let if1 = c.if-places-number in
     let s = args.s.now in
-    let k = at-known s args.number args.places pre.0 pre.1 _ _ (bytes-known s c.type_inv.s) if1.false c.in-At.is in
+    let k = at-known s args.number args.places pre.0 pre.1 _ _ (bytes-known s c.type_inv.s) if1.false c.in-Some.is in
     rw (c.of_bytes-field.ensures, ← k.place) (body-found s args.number _ _ _ k.rows refl refl refl)
 
-pub returns-in-NoSuchLink : goal.returns-in-NoSuchLink
-returns-in-NoSuchLink c =
+pub returns-in-None : goal.returns-in-None
+returns-in-None c =
     let args = c.args in
     let pre = c.requires in
     let if1 = c.if-places-number in
-    absurd (at-never args.s.now args.number args.places pre.0 pre.1 if1.false c.in-NoSuchLink.is)
+    absurd (at-never args.s.now args.number args.places pre.0 pre.1 if1.false c.in-None.is)

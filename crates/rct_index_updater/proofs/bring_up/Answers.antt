@@ -9,12 +9,12 @@ told_anew-requires c = fit-numbers _ _ _ _ _ (sym c.are_numbers.ensures ∙ c.if
 
 pub returns-then-are_numbers : goal.returns-then-are_numbers
 unfolding anew_by
-returns-then-are_numbers c = rw (c.in-Done.is, ← c.are_numbers.ensures, c.if-are_numbers.true) c.told_anew.ensures
+returns-then-are_numbers c = rw (c.in-Ok.is, ← c.are_numbers.ensures, c.if-are_numbers.true) c.told_anew.ensures
 
 pub returns-else-are_numbers : goal.returns-else-are_numbers
 unfolding anew_by
-returns-else-are_numbers c = rw (c.in-Done.is, ← c.are_numbers.ensures, c.if-are_numbers.false)
+returns-else-are_numbers c = rw (c.in-Ok.is, ← c.are_numbers.ensures, c.if-are_numbers.false)
 
-pub returns-in-Refused : goal.returns-in-Refused
+pub returns-in-Err : goal.returns-in-Err
 unfolding anew_by
-returns-in-Refused c = rw c.in-Refused.is
+returns-in-Err c = rw c.in-Err.is

@@ -2,10 +2,10 @@ use Rattle.rct_index_updater.specs.Bringing.{last_of}
 use borrow.Author.Rules.{rules}
 use Rattle.rct_index_updater.proofs.last_of.Goals as goal
 
-pub returns-in-Done : goal.returns-in-Done
+pub returns-in-Ok : goal.returns-in-Ok
 unfolding last_of
-returns-in-Done c = rw c.in-Done.is
+returns-in-Ok c = rw c.in-Ok.is
 
-pub returns-in-Refused : goal.returns-in-Refused
+pub returns-in-Err : goal.returns-in-Err
 unfolding last_of
-returns-in-Refused c = rw c.in-Refused.is
+returns-in-Err c = rw c.in-Err.is

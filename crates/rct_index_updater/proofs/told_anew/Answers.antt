@@ -1,9 +1,6 @@
-use Prim.Native.Nat.{◌+◌, ◌-◌, ◌≤◌, ◌<◌, max}
-use mathlib.Core.Path.{◌≡◌}
 use native.Mathlib.Omega.{arith}
 use Rattle.rct_index.specs.Editing.{told_anew}
-use Rattle.rct_index_updater.proofs.Steps.{up_to, step-first, step-on, step-last}
-use borrow.Author.Rules.{rules}
+use Rattle.rct_index_updater.proofs.Steps.{step-first, step-on, step-last}
 use Rattle.rct_index_updater.proofs.told_anew.Goals as goal
 
 pub loop-j-init : goal.loop-j-init

@@ -1,9 +1,8 @@
-use Prim.Native.Nat.{◌-◌}
 use mathlib.Core.Path.{sym, ◌∙◌}
 use native.Mathlib.Omega.{arith}
 use Rattle.wire.proofs.Lists.{bytes-known}
-use Rattle.rct_indexer.proofs.Walks.{Walking, walk_start, walk-stops, walk-on, walk-cut, walk-few, walk_ends, refused-built}
-use borrow.Author.Rules.{rules}
+use Rattle.wire.proofs.Verdicts.{handed-on}
+use Rattle.rct_indexer.proofs.Walks.{walk_start, walk-stops, walk-on, walk-cut, walk-few, walk_ends, refused-built}
 use Rattle.rct_indexer.proofs.index_payload.Goals as goal
 
 pub loop-k-init : goal.loop-k-init
@@ -17,19 +16,19 @@ loop-k-preserved c =
     let wide = c.wide-count in
     let loop = c.loop-k in
     let loop-test = c.loop-k-test in
-    let read-entry = c.read_entry-entry in
+    let read-entry = c.read_entry in
     let b = bytes-known args.payload.now c.type_inv.payload in
-    walk-on args.payload.now args.links b (omega (arith, wide.ensures)) loop.k loop.at loop.sets loop.places loop.invariant (omega (arith, loop-test.true, wide.ensures)) _ _ _ _ (sym read-entry.ensures ∙ c.in-Got.is) (rw c.of.ensures at c.with-sets.ensures)
+    walk-on args.payload.now args.links b (omega (arith, wide.ensures)) loop.k loop.at loop.sets loop.places loop.invariant (omega (arith, loop-test.true, wide.ensures)) _ _ _ _ (sym read-entry.ensures ∙ c.in_ok-entry.was) (rw c.of.ensures at c.with-sets.ensures)
 
-pub returns-in-Refused : goal.returns-in-Refused
-returns-in-Refused c =
+pub returns-in_err-entry : goal.returns-in_err-entry
+returns-in_err-entry c =
     let args = c.args in
     let wide = c.wide-count in
     let loop = c.loop-k in
     let loop-test = c.loop-k-test in
-    let read-entry = c.read_entry-entry in
+    let read-entry = c.read_entry in
     let b = bytes-known args.payload.now c.type_inv.payload in
-    refused-built _ _ _ _ c.refused.ensures (walk-stops args.payload.now args.links b (omega (arith, wide.ensures)) loop.k loop.at loop.sets loop.places loop.invariant (omega (arith, loop-test.true, wide.ensures)) _ (sym read-entry.ensures ∙ c.in-Refused.is))
+    handed-on _ _ c.from_residual.ensures ∙ refused-built _ _ _ (walk-stops args.payload.now args.links b (omega (arith, wide.ensures)) loop.k loop.at loop.sets loop.places loop.invariant (omega (arith, loop-test.true, wide.ensures)) _ (sym read-entry.ensures ∙ c.in_err-entry.was))
 
 pub overflow_cast-result : goal.overflow_cast-result
 overflow_cast-result c =
@@ -38,23 +37,23 @@ overflow_cast-result c =
     let loop = c.loop-k in
     let loop-test = c.loop-k-test in
     let wide = c.wide-count in
-    let count-loop = c.count_loop-counted in
-    omega (arith, pre, walk-few args.payload.now args.links loop.k loop.at loop.sets loop.places loop.invariant (omega (arith, loop-test.false, wide.ensures)) _ _ count-loop.ensures c.in-Number.is)
+    let count-loop = c.count_loop in
+    omega (arith, pre, walk-few args.payload.now args.links loop.k loop.at loop.sets loop.places loop.invariant (omega (arith, loop-test.false, wide.ensures)) _ _ count-loop.ensures c.in_ok-n.was)
 
-pub returns-in-Number : goal.returns-in-Number
-returns-in-Number c =
+pub returns : goal.returns
+returns c =
     let args = c.args in
     let loop = c.loop-k in
     let loop-test = c.loop-k-test in
     let wide = c.wide-count in
-    let count-loop = c.count_loop-counted in
-    walk_ends args.payload.now args.links loop.k loop.at loop.sets loop.places loop.invariant (omega (arith, loop-test.false, wide.ensures)) _ _ count-loop.ensures c.in-Number.is
+    let count-loop = c.count_loop in
+    walk_ends args.payload.now args.links loop.k loop.at loop.sets loop.places loop.invariant (omega (arith, loop-test.false, wide.ensures)) _ _ count-loop.ensures c.in_ok-n.was
 
-pub returns-in-Refused-counted : goal.returns-in-Refused-counted
-returns-in-Refused-counted c =
+pub returns-in_err-n : goal.returns-in_err-n
+returns-in_err-n c =
     let args = c.args in
     let loop = c.loop-k in
     let loop-test = c.loop-k-test in
     let wide = c.wide-count in
-    let count-loop = c.count_loop-counted in
-    refused-built _ _ _ _ c.refused-in-Refused-counted.ensures (walk-cut args.payload.now args.links loop.k loop.at loop.sets loop.places loop.invariant (omega (arith, loop-test.false, wide.ensures)) _ _ count-loop.ensures c.in-Refused-counted.is)
+    let count-loop = c.count_loop in
+    handed-on _ _ c.from_residual-in_err-n.ensures ∙ refused-built _ _ _ (walk-cut args.payload.now args.links loop.k loop.at loop.sets loop.places loop.invariant (omega (arith, loop-test.false, wide.ensures)) _ _ count-loop.ensures c.in_err-n.was)

@@ -1,10 +1,19 @@
-use mathlib.Core.Path.{◌≡◌, sym, ◌∙◌}
-use Rattle.rct_walker.proofs.Loops.{loop-had}
+use mathlib.Core.Path.{◌≡◌, sym, ap, ◌∙◌}
+use Rattle.wire.proofs.Verdicts.{handed-on}
+use Rattle.rct_walker.proofs.Loops.{loop-had, loop-not}
+use Rattle.rct_reader.proofs.Wholes.{fine-read, section-refused}
+use Rattle.std.specs.Prelude.{Ok}
 use borrow.Author.Rules.{rules}
 use Rattle.rct_reader.proofs.read_section.Goals as goal
 
-pub section_of-requires : goal.section_of-requires
-section_of-requires c = λ t n p e. let g = loop-had _ _ _ _ _ (sym c.plain_loop.ensures ∙ e) in ((sym g.total, (sym g.count, sym g.place)), g.fine)
+pub section_at-requires : goal.section_at-requires
+section_at-requires c = sym c.plain_loop.ensures ∙ c.in_ok-found.was
 
 pub returns : goal.returns
-returns c = c.section_of.ensures _ c.plain_loop.ensures
+returns c =
+    let g = loop-had _ _ _ _ _ (sym c.plain_loop.ensures ∙ c.in_ok-found.was) in
+    ap Ok c.section_at.ensures ∙ sym (fine-read _ _ g.fine)
+
+pub returns-in_err-found : goal.returns-in_err-found
+returns-in_err-found c =
+    handed-on _ _ c.from_residual.ensures ∙ sym (section-refused _ _ _ (loop-not _ _ _ (sym c.plain_loop.ensures ∙ c.in_err-found.was)))

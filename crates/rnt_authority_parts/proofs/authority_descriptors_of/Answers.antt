@@ -2,11 +2,11 @@ use Rattle.rnt_authority_parts.specs.Parts.{authority_descriptors_of}
 use borrow.Author.Rules.{rules}
 use Rattle.rnt_authority_parts.proofs.authority_descriptors_of.Goals as goal
 
-pub returns-in-Got : goal.returns-in-Got
+pub returns-in-Ok : goal.returns-in-Ok
 unfolding authority_descriptors_of
-returns-in-Got c =
-    rw c.in-Got.is
+returns-in-Ok c =
+    rw c.in-Ok.is
 
-pub returns-in-Refused : goal.returns-in-Refused
+pub returns-in-Err : goal.returns-in-Err
 unfolding authority_descriptors_of
-returns-in-Refused c = rw c.in-Refused.is
+returns-in-Err c = rw c.in-Err.is

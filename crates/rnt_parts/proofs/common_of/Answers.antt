@@ -2,11 +2,11 @@ use Rattle.rnt_parts.specs.Parts.{common_of}
 use borrow.Author.Rules.{rules}
 use Rattle.rnt_parts.proofs.common_of.Goals as goal
 
-pub returns-in-Got : goal.returns-in-Got
+pub returns-in-Ok : goal.returns-in-Ok
 unfolding common_of
-returns-in-Got c =
-    rw c.in-Got.is
+returns-in-Ok c =
+    rw c.in-Ok.is
 
-pub returns-in-Refused : goal.returns-in-Refused
+pub returns-in-Err : goal.returns-in-Err
 unfolding common_of
-returns-in-Refused c = rw c.in-Refused.is
+returns-in-Err c = rw c.in-Err.is

@@ -8,6 +8,7 @@ use Rattle.rnt.proofs.Numbers.{authority-within}
 use Rattle.rnt_walker.specs.declared.RntPlaces.{RntPlaces}
 use Rattle.rnt_providers.proofs.Answers.{rows_pass, authorities-are, authority-stands, authority-no-provider, authority-none, authority-said, authority-never}
 use borrow.Author.Rules.{rules}
+use Rattle.wire.proofs.Verdicts.{handed-on}
 use Rattle.rnt_providers.proofs.authority_at.Goals as goal
 
 pub returns-then-places-number : goal.returns-then-places-number
@@ -44,28 +45,28 @@ overflow_cast-places c =
     let w = authority-within s pre.1 args.number (omega (arith, n)) args.authority (omega (arith, m)) in
     record { fits = omega (arith, q, w, length-short s 1 (bytes-known s c.type_inv.s)) }
 
-pub returns-in-Got : goal.returns-in-Got
-returns-in-Got c =
+pub returns : goal.returns
+returns c =
     let args = c.args in
     let pre = c.requires in
     let payload-end = c.payload_end-end in
-    let read-authority = c.read_authority-found in
+    let read-authority = c.read_authority in
     let s = args.s.now in
     let n = ap (λ (p : RntPlaces). p.providers) pre.0 in
     let m = ap (λ (p : RntPlaces). p.authorities) pre.0 ∙ authorities-are s pre.1 args.number (omega (arith, n)) in
     let q = ap (λ (p : RntPlaces). p.authority_at) pre.0 ∙ authority-stands s pre.1 args.number (omega (arith, n)) args.authority in
     let e = payload-end.ensures ∙ ap (λ (p : RntPlaces). p.total - crc_length) pre.0 in
-    authority-said s pre.1 args.number (omega (arith, n)) args.authority (omega (arith, m)) _ (rw (e, q) at read-authority.ensures) _ _ c.in-Got.is
+    authority-said s pre.1 args.number (omega (arith, n)) args.authority (omega (arith, m)) _ (rw (e, q) at read-authority.ensures) _ _ c.in_ok-found.was
 
-pub returns-in-Refused : goal.returns-in-Refused
-returns-in-Refused c =
+pub returns-in_err-found : goal.returns-in_err-found
+returns-in_err-found c =
     let args = c.args in
     let pre = c.requires in
     let payload-end = c.payload_end-end in
-    let read-authority = c.read_authority-found in
+    let read-authority = c.read_authority in
     let s = args.s.now in
     let n = ap (λ (p : RntPlaces). p.providers) pre.0 in
     let m = ap (λ (p : RntPlaces). p.authorities) pre.0 ∙ authorities-are s pre.1 args.number (omega (arith, n)) in
     let q = ap (λ (p : RntPlaces). p.authority_at) pre.0 ∙ authority-stands s pre.1 args.number (omega (arith, n)) args.authority in
     let e = payload-end.ensures ∙ ap (λ (p : RntPlaces). p.total - crc_length) pre.0 in
-    absurd (authority-never s pre.1 args.number (omega (arith, n)) args.authority (omega (arith, m)) _ (rw (e, q) at read-authority.ensures) _ c.in-Refused.is)
+    handed-on _ _ c.from_residual.ensures ∙ absurd (authority-never s pre.1 args.number (omega (arith, n)) args.authority (omega (arith, m)) _ (rw (e, q) at read-authority.ensures) _ c.in_err-found.was)

@@ -1,9 +1,8 @@
-use Prim.Native.Nat.{◌-◌, ◌≤◌}
-use mathlib.Core.Path.{◌≡◌, ap}
+use mathlib.Core.Path.{ap}
 use native.Mathlib.Omega.{arith}
 use lib.ListN.{length}
 use lib.Seq.{length-sets}
-use Rattle.byte_moves.specs.Stages.{run, moved_down}
+use Rattle.byte_moves.specs.Stages.{run}
 use Rattle.byte_moves.proofs.Steps.{down-more}
 use borrow.Author.Rules.{rules}
 use Rattle.byte_moves.proofs.down.runs_down.Goals as goal

@@ -1,11 +1,6 @@
 use Prim.Native.Nat.{◌-◌, ◌≤◌}
-use mathlib.Core.Path.{◌≡◌, ap}
-use native.Mathlib.Omega.{arith}
-use lib.ListN.{length}
-use lib.Seq.{length-sets}
-use Rattle.byte_moves.specs.Stages.{run, moved_down}
-use Rattle.byte_moves.proofs.Steps.{down-more}
-use borrow.Author.Rules.{rules}
+use mathlib.Core.Path.{◌≡◌}
+use Rattle.byte_moves.specs.Stages.{moved_down}
 use Rattle.byte_moves.proofs.down.runs_down.Given as goal
 
 abbrev pub invariant-loop-done : goal.invariant-loop-done

@@ -1,8 +1,7 @@
-use Prim.Native.Nat.{ℕ, ◌-◌}
+use Prim.Native.Nat.{ℕ}
 use lib.ListN.{replicate, length-replicate}
 use Rattle.byte_moves.specs.Stages.{run}
 use Rattle.byte_moves.proofs.Steps.{run_moved}
-use borrow.Author.Rules.{rules}
 use Rattle.byte_moves.proofs.run.move_run.Goals as goal
 
 pub returns : goal.returns

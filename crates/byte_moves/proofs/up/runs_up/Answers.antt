@@ -1,9 +1,9 @@
-use Prim.Native.Nat.{◌-◌, ◌≤◌}
-use mathlib.Core.Path.{◌≡◌, ap}
+use Prim.Native.Nat.{◌-◌}
+use mathlib.Core.Path.{ap}
 use native.Mathlib.Omega.{arith}
 use lib.ListN.{length}
 use lib.Seq.{length-sets}
-use Rattle.byte_moves.specs.Stages.{run, moved_up}
+use Rattle.byte_moves.specs.Stages.{run}
 use Rattle.byte_moves.proofs.Steps.{up_none, up_more}
 use borrow.Author.Rules.{rules}
 use Rattle.byte_moves.proofs.up.runs_up.Goals as goal

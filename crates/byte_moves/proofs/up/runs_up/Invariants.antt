@@ -1,11 +1,6 @@
-use Prim.Native.Nat.{◌-◌, ◌≤◌}
-use mathlib.Core.Path.{◌≡◌, ap}
-use native.Mathlib.Omega.{arith}
-use lib.ListN.{length}
-use lib.Seq.{length-sets}
-use Rattle.byte_moves.specs.Stages.{run, moved_up}
-use Rattle.byte_moves.proofs.Steps.{up_none, up_more}
-use borrow.Author.Rules.{rules}
+use Prim.Native.Nat.{◌≤◌}
+use mathlib.Core.Path.{◌≡◌}
+use Rattle.byte_moves.specs.Stages.{moved_up}
 use Rattle.byte_moves.proofs.up.runs_up.Given as goal
 
 abbrev pub invariant-loop-left : goal.invariant-loop-left

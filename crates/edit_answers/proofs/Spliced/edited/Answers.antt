@@ -1,11 +1,12 @@
 use Rattle.edit_answers.specs.Answers.{edited_by}
-use borrow.Author.Rules.{rules}
+use Rattle.wire.proofs.Verdicts.{handed-on}
+use mathlib.Core.Path.{◌∙◌}
 use Rattle.edit_answers.proofs.Spliced.edited.Goals as goal
 
-pub returns-in-Done : goal.returns-in-Done
+pub returns : goal.returns
 unfolding edited_by
-returns-in-Done c = rw c.in-Done.is c.accepted.ensures
+returns c = rw c.in_ok-put.was
 
-pub returns-in-Refused : goal.returns-in-Refused
+pub returns-in_err-put : goal.returns-in_err-put
 unfolding edited_by
-returns-in-Refused c = rw c.in-Refused.is c.refused.ensures
+returns-in_err-put c = handed-on _ _ c.from_residual.ensures ∙ rw c.in_err-put.was

@@ -4,6 +4,7 @@ use Rattle.link.proofs.Bounds.{items-within, count-far}
 use Rattle.link_walker.proofs.Stages.{rest-11, counted-at, counted-refused, rest-stop, rest-tail}
 use borrow.Author.Rules.{rules}
 use mathlib.Core.Path.{◌∙◌}
+use Rattle.wire.proofs.Verdicts.{handed-on}
 use Rattle.link_walker.proofs.walk.past_rest.Goals as goal
 
 pub returns-then-have-first : goal.returns-then-have-first
@@ -24,26 +25,26 @@ up_to_tail-requires c =
     let e = c.requires.0 in
     let n = c.count_of.ensures.0 in
     let h = c.if-have-first.false in
-    let walked = c.past_items-items.ensures in
-    let g = counted-at s _ _ _ e n walked _ c.in-At.is in
+    let walked = c.past_items.ensures in
+    let g = counted-at s _ _ _ e n walked _ c.in_ok-tail.was in
     rw (← g.1) (items-within _ s _ (rw e at h) g.0)
 
-pub returns-in-At : goal.returns-in-At
-returns-in-At c =
+pub returns : goal.returns
+returns c =
     let s = c.args.s.now in
     let e = c.requires.0 in
     let n = c.count_of.ensures.0 in
     let h = c.if-have-first.false in
-    let walked = c.past_items-items.ensures in
-    let found = c.in-At.is in
+    let walked = c.past_items.ensures in
+    let found = c.in_ok-tail.was in
     let g = counted-at s _ _ _ e n walked _ found in
     c.up_to_tail.ensures ∙ rest-tail s (rw e at h) _ g.0 g.1
 
-pub returns-in-Refused : goal.returns-in-Refused
-returns-in-Refused c =
+pub returns-in_err-tail : goal.returns-in_err-tail
+returns-in_err-tail c =
     let s = c.args.s.now in
     let e = c.requires.0 in
     let n = c.count_of.ensures.0 in
     let h = c.if-have-first.false in
-    let walked = c.past_items-items.ensures in
-    rest-stop s (rw e at h) _ (counted-refused s _ _ _ e n walked _ c.in-Refused.is)
+    let walked = c.past_items.ensures in
+    handed-on _ _ c.from_residual.ensures ∙ rest-stop s (rw e at h) _ (counted-refused s _ _ _ e n walked _ c.in_err-tail.was)

@@ -1,5 +1,4 @@
 use Rattle.wire.specs.Verdict.{reached}
-use borrow.Author.Rules.{rules}
 use Rattle.rct_walker.proofs.walk.past_any_links.Goals as goal
 
 pub returns-then-n-eq0 : goal.returns-then-n-eq0

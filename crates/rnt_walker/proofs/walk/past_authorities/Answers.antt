@@ -1,7 +1,7 @@
 use Prim.Native.Nat.{◌-◌}
 use mathlib.Core.Path.{◌≡◌, refl, sym, ◌∙◌}
 use native.Mathlib.Omega.{arith}
-use Rattle.wire.proofs.Verdicts.{reached-at, reached-refused}
+use Rattle.wire.proofs.Verdicts.{reached-at, reached-refused, handed-on}
 use Rattle.wire.specs.Runs.{places_to}
 use Rattle.rnt.specs.Reading.{named_end, authority_verdict}
 use Rattle.rnt.proofs.Names.{named-up, named-passed}
@@ -20,29 +20,29 @@ overflow_add-i c =
 
 pub loop-p-smaller : goal.loop-p-smaller
 loop-p-smaller c =
-    let past-authority = c.past_authority-step in
-    let g = reached-at _ _ _ (sym (rw (end-told c.args.s.now c.args.e c.requires.1.0) at past-authority.ensures) ∙ c.in-At.is) in
+    let past-authority = c.past_authority in
+    let g = reached-at _ _ _ (sym (rw (end-told c.args.s.now c.args.e c.requires.1.0) at past-authority.ensures) ∙ c.in_ok-next.was) in
     omega (arith, g.1)
 
 pub loop-p-preserved : goal.loop-p-preserved
 loop-p-preserved c =
     let args = c.args in
-    let past-authority = c.past_authority-step in
+    let past-authority = c.past_authority in
     let loop = c.loop-p in
     let loop-test = c.loop-p-test in
     let s = args.s.now in
-    let g = reached-at _ _ _ (sym (rw (end-told c.args.s.now c.args.e c.requires.1.0) at past-authority.ensures) ∙ c.in-At.is) in
+    let g = reached-at _ _ _ (sym (rw (end-told c.args.s.now c.args.e c.requires.1.0) at past-authority.ensures) ∙ c.in_ok-next.was) in
     let w = named-passed _ _ s _ _ g.0 in
     (walk-on (named_end s) (named-up s) _ _ _ _ _ _ loop.invariant.0 loop-test.true g.0 g.1 (omega (arith, g.1)), rw c.found_at-place.ensures (place-on (named_end s) (named-up s) _ _ _ _ _ _ _ loop.invariant.1 loop-test.true g.1))
 
-pub returns-in-Refused : goal.returns-in-Refused
-returns-in-Refused c =
+pub returns-in_err-next : goal.returns-in_err-next
+returns-in_err-next c =
     let args = c.args in
     let loop = c.loop-p in
     let loop-test = c.loop-p-test in
-    let past-authority = c.past_authority-step in
+    let past-authority = c.past_authority in
     let s = args.s.now in
-    refused-counted _ _ _ _ (walk-stop (named_end s) (named-up s) _ _ _ _ _ _ loop.invariant.0 loop-test.true (reached-refused _ _ _ (sym (rw (end-told c.args.s.now c.args.e c.requires.1.0) at past-authority.ensures) ∙ c.in-Refused.is)))
+    handed-on _ _ c.from_residual.ensures ∙ refused-counted _ _ _ _ (walk-stop (named_end s) (named-up s) _ _ _ _ _ _ loop.invariant.0 loop-test.true (reached-refused _ _ _ (sym (rw (end-told c.args.s.now c.args.e c.requires.1.0) at past-authority.ensures) ∙ c.in_err-next.was)))
 
 pub returns : goal.returns
 returns c =

@@ -9,13 +9,14 @@ use Rattle.rnt.specs.Reading.{authority_count, authority_place, provider_verdict
 use Rattle.rnt.proofs.Providers.{provider-within}
 use Rattle.rnt_walker.proofs.Walks.{passed-at, passed-refused, read-walked, refused-walked, Sought, sought-start, Walking, walk_start, walk-on, walk-stop, walk_fine, walk-number, place-on, place_end, told-on, told-end}
 use borrow.Author.Rules.{rules}
+use Rattle.wire.proofs.Verdicts.{handed-on}
 use Rattle.rnt_walker.proofs.walk.past_providers.Goals as goal
 
 pub loop-p-init : goal.loop-p-init
 loop-p-init c = (walk_start _ _ _ _ _ c.requires.1.0, (sought-start _ _, (sought-start _ _, sought-start _ _)))
 
-pub past_provider-step-requires : goal.past_provider-step-requires
-past_provider-step-requires c = (omega arith, (omega arith, omega (arith, c.loop-p.invariant.0.within)))
+pub past_provider-requires : goal.past_provider-requires
+past_provider-requires c = (omega arith, (omega arith, omega (arith, c.loop-p.invariant.0.within)))
 
 pub overflow_add-i : goal.overflow_add-i
 overflow_add-i c =
@@ -24,8 +25,8 @@ overflow_add-i c =
 
 pub loop-p-smaller : goal.loop-p-smaller
 loop-p-smaller c =
-    let past-provider = c.past_provider-step in
-    let g = passed-at _ _ _ _ _ _ _ (sym past-provider.ensures ∙ c.in-At.is) in
+    let past-provider = c.past_provider in
+    let g = passed-at _ _ _ _ _ _ _ (sym past-provider.ensures ∙ c.in_ok-passed.was) in
     omega (arith, g.0)
 
 pub loop-p-preserved : goal.loop-p-preserved
@@ -33,12 +34,12 @@ loop-p-preserved c =
     let args = c.args in
     let loop = c.loop-p in
     let loop-test = c.loop-p-test in
-    let past-provider = c.past_provider-step in
+    let past-provider = c.past_provider in
     let found_at = c.found_at-provider_at in
     let s = args.s.now in
     let inv = loop.invariant in
     let here = loop-test.true in
-    let g = passed-at _ _ _ _ _ _ _ (sym past-provider.ensures ∙ c.in-At.is) in
+    let g = passed-at _ _ _ _ _ _ _ (sym past-provider.ensures ∙ c.in_ok-passed.was) in
     let w = provider-within s _ _ g.1.fine in (
       walk-on (block_end s) (block_up s) _ _ _ _ _ _ inv.0 here g.1.fine g.0 (omega (arith, g.0)),
       (
@@ -50,16 +51,16 @@ loop-p-preserved c =
       ),
     )
 
-pub returns-in-Refused : goal.returns-in-Refused
-returns-in-Refused c =
+pub returns-in_err-passed : goal.returns-in_err-passed
+returns-in_err-passed c =
     let args = c.args in
     let loop = c.loop-p in
     let loop-test = c.loop-p-test in
-    let past-provider = c.past_provider-step in
+    let past-provider = c.past_provider in
     let pre = c.requires in
     let s = args.s.now in
-    let v = walk-stop (block_end s) (block_up s) _ _ _ _ _ _ loop.invariant.0 loop-test.true (passed-refused _ _ _ _ _ (sym past-provider.ensures ∙ c.in-Refused.is)) in
-    refused-walked _ _ _ (rw (pre.0.1.0, pre.0.1.1) at v)
+    let v = walk-stop (block_end s) (block_up s) _ _ _ _ _ _ loop.invariant.0 loop-test.true (passed-refused _ _ _ _ _ (sym past-provider.ensures ∙ c.in_err-passed.was)) in
+    handed-on _ _ c.from_residual.ensures ∙ refused-walked _ _ _ (rw (pre.0.1.0, pre.0.1.1) at v)
 
 pub returns : goal.returns
 returns c =

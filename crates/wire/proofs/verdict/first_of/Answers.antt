@@ -1,11 +1,14 @@
-use Rattle.wire.specs.Verdict.{◌▷◌}
-use borrow.Author.Rules.{rules}
+use Rattle.std.specs.Prelude.{Ok, Err}
+use Rattle.std.specs.Result.{result_and}
+use Rattle.wire.specs.Verdict.{Verdict, ◌▷◌}
+use mathlib.Core.Path.{◌≡◌, refl}
 use Rattle.wire.proofs.verdict.first_of.Goals as goal
 
-pub returns-in-Fine : goal.returns-in-Fine
+-- the library's word for it
+first-and : (v w : Verdict) → result_and v w ≡ v ▷ w
 unfolding ◌▷◌
-returns-in-Fine c = rw c.in-Fine.is
+first-and (Ok _) w = refl
+first-and (Err r) w = refl
 
-pub returns-in-Refused : goal.returns-in-Refused
-unfolding ◌▷◌
-returns-in-Refused c = rw c.in-Refused.is
+pub returns : goal.returns
+returns c = rw (c.and.ensures, first-and c.args.a c.args.b)

@@ -1,7 +1,6 @@
 use Rattle.flat_answers.specs.Edits.{index_edit_answer}
-use borrow.Author.Rules.{rules}
 use Rattle.flat_answers.proofs.edits.IndexEditAnswer.of.Goals as goal
 
 pub returns : goal.returns
 unfolding index_edit_answer
-returns c = rw c.refusal_of.ensures
+returns c = rw (← c.of-edit.ensures)

@@ -1,8 +1,0 @@
-use Rattle.std.proofs.Common.{◌-◌, length, rules}
-use Rattle.script.proofs.read.read.Given as goal
-
-abbrev pub invariant-loop-at : goal.invariant-loop-at
-invariant-loop-at l = Unit {0}
-
-abbrev pub decreases-loop-at : goal.decreases-loop-at
-decreases-loop-at l = length l.form - l.at

@@ -1,7 +1,8 @@
 #!/usr/bin/env python3
 """c_header ARCHIVE OUT: holds include/eallunsa.h against what it declares.
 
-- The names: those that the header declares, those that crates/eallunsa exports, those that ARCHIVE has (by nm).
+- The names: those that the header declares, those that crates/eallunsa exports, those that ARCHIVE has (by nm);
+  and those that ARCHIVE asks for from outside, which are the C library's that the header tells of.
 - The records and the parameters: OUT is a C file of static assertions, worked out from the Rattle sources. Each function
   has the type that its source says, and each record its size and alignment, and of each field place, width and kind.
 - The refusals: the two lists of the header are the two tables of docs/REFUSALS.md, and each function's comment has the
@@ -295,6 +296,9 @@ structs, declared, words, numbers, widest = header()
 symbols = subprocess.run(["nm", "-g", "--defined-only", archive], capture_output=True, text=True, check=True).stdout
 same_names("functions of the header", declared, functions)
 same_names("functions of the archive", [line.split()[2] for line in symbols.splitlines() if " T " in line], functions)
+asked = subprocess.run(["nm", "-u", archive], capture_output=True, text=True, check=True).stdout
+(told,) = re.findall(r"a C library for (.*?)\. \*/", (root / "include/eallunsa.h").read_text())
+same_names("names that the archive asks for", {line.split()[1] for line in asked.splitlines() if " U " in line}, told.split(" and "))
 same("names with another prefix", [name for name in [*declared, *structs] if not name.startswith(PREFIX)], [])
 fitted, facts = {}, []
 for name, (given, answer, _) in functions.items():

@@ -1,15 +1,15 @@
--- A step of a move: the next w bytes, a run of them or what is left, go to their places. What was moved before has not reached them.
+-- A step of a move: the next w bytes, a run of them, one or what is left, go to their places. What was moved before has not reached them.
 -- Assumes nothing.
 use Prim.Native.Nat.{ℕ, suc, ◌+◌, ◌-◌, ◌≤◌, ◌<◌}
 use mathlib.Core.Path.{◌≡◌, refl, sym, ap, ◌∙◌}
 use mathlib.Core.List.{List, [], ◌∷◌, ◌++◌, append_assoc}
 use native.Mathlib.Omega.{arith}
 use native.Mathlib.Nat.{add-zero, add-suc, suc-add}
-use lib.ListN.{length, take, drop, set, length-drop, take-append-drop, drop_of_length-le}
+use lib.ListN.{length, take, drop, get_or, set, length-drop, take-append-drop, drop_of_length-le}
 use lib.Seq.{sets, sets-eq, set_comm, length-sets, take_all, drop-drop, take-add, length-take-le}
 use Rattle.std.specs.List.{copy_within}
 use Rattle.wire.specs.Lists.{part}
-use Rattle.wire.proofs.Lists.{length_part, part-part, drop-take}
+use Rattle.wire.proofs.Lists.{firsts-part, length_part, part-part, drop-take}
 use Rattle.byte_stores.specs.Stores.{put_at}
 use Rattle.byte_stores.proofs.Writing.{sets-append, sets-before, sets_behind, sets-take, copied}
 use Rattle.byte_moves.specs.Stages.{moved_up, moved_down}
@@ -37,6 +37,9 @@ part-before xs vs at p w l h = cut (sets xs at vs) (omega (arith, length-sets xs
 
 part-behind : (xs vs : List ℕ) (at p w : ℕ) → at + length vs ≤ length xs → at + length vs ≤ p → part (sets xs at vs) p w ≡ part xs p w
 part-behind xs vs at p w l h = ap (take w) (sets_behind xs at vs l p h)
+
+one-part : (xs : List ℕ) (p : ℕ) → p < length xs → get_or xs p 0 ∷ [] ≡ part xs p 1
+one-part xs p h = firsts-part 1 xs p (omega arith)
 
 -- ---- a run, by way of bytes that start as zs
 
@@ -116,6 +119,11 @@ module _ (xs : List ℕ) (p q n : ℕ) (below : q ≤ p) (room : p + n ≤ lengt
 
   pub down-all : moved_down xs p q n n ≡ sets xs q falling
   down-all = ap (sets xs q) (take_all n falling (omega (arith, falling-size)))
+
+-- ---- a byte is a run of one
+
+pub byte-moved : (xs : List ℕ) (p q : ℕ) → p < length xs → set xs q (get_or xs p 0) ≡ sets xs q (part xs p 1)
+byte-moved xs p q h = ap (sets xs q) (one-part xs p h)
 
 -- ---- what is left, by the library
 

@@ -6,14 +6,13 @@ ghost use Rattle.byte_moves.specs.Stages.{run, moved_down};
 
 use crate::run::{RUN, move_run};
 
-// The `n` bytes at `from` go to `to`, which is not higher. The library goes byte by byte, so that runs go
-// before it, and what is left is less than one.
+// The `n` bytes at `from` go to `to`, which is not higher.
 pub(crate) fn move_down(b: &mut [u8], from: usize, to: usize, n: usize)
     requires { (to ≤ from) × (from + n ≤ length b.old) }
     ensures { b.new ≡ sets b.old to (part b.old from n) }
 {
     let done = runs_down(b, from, to, n);
-    b.copy_within(from + done..from + n, to + done);
+    bytes_down(b, from + done, to + done, n - done);
 }
 
 // Run by run. The answer is how many bytes went, the first ones.
@@ -27,4 +26,14 @@ fn runs_down(b: &mut [u8], from: usize, to: usize, n: usize) -> usize
         done += RUN;
     }
     done
+}
+
+// Byte by byte.
+fn bytes_down(b: &mut [u8], from: usize, to: usize, n: usize)
+    requires { (to ≤ from) × (from + n ≤ length b.old) }
+    ensures { b.new ≡ sets b.old to (part b.old from n) }
+{
+    for i in 0..n {
+        b[to + i] = b[from + i];
+    }
 }

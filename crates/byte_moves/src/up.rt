@@ -6,14 +6,13 @@ ghost use Rattle.byte_moves.specs.Stages.{run, moved_up};
 
 use crate::run::{RUN, move_run};
 
-// The `n` bytes at `from` go to `to`, which is not lower. The library goes byte by byte, so that runs go
-// before it, and what is left is less than one.
+// The `n` bytes at `from` go to `to`, which is not lower.
 pub(crate) fn move_up(b: &mut [u8], from: usize, to: usize, n: usize)
     requires { (from ≤ to) × (to + n ≤ length b.old) }
     ensures { b.new ≡ sets b.old to (part b.old from n) }
 {
     let left = runs_up(b, from, to, n);
-    b.copy_within(from..from + left, to);
+    bytes_up(b, from, to, left);
 }
 
 // Run by run. The answer is how many bytes are left, the first ones.
@@ -27,4 +26,15 @@ fn runs_up(b: &mut [u8], from: usize, to: usize, n: usize) -> usize
         move_run(b, from + left, to + left);
     }
     left
+}
+
+// Byte by byte.
+fn bytes_up(b: &mut [u8], from: usize, to: usize, n: usize)
+    requires { (from ≤ to) × (to + n ≤ length b.old) }
+    ensures { b.new ≡ sets b.old to (part b.old from n) }
+{
+    for i in 0..n {
+        let left = n - 1 - i;
+        b[to + left] = b[from + left];
+    }
 }

@@ -1,4 +1,4 @@
--- Runs of stores: a byte, a run after a run, a run copied as one; what a run leaves before and behind it; and each
+-- Runs of stores: a byte, a run after a run, a run copied byte by byte and as one; what a run leaves before and behind it; and each
 -- byte then.
 -- Assumes nothing.
 use Prim.Native.Nat.{ℕ, suc, ◌+◌, ◌-◌, ◌≤◌, ◌<◌}
@@ -8,7 +8,7 @@ use native.Mathlib.Omega.{arith}
 use native.Mathlib.Numerals.{add-one}
 use native.Mathlib.Nat.{add-zero, add-suc, suc-add}
 use lib.ListN.{length, take, drop, get_or, set, length-append}
-use lib.Seq.{sets, length-sets, sets-eq, take-take, take-append-le, take_at, drop_at, drop-drop, get_or-take, get_or-drop, length-take-le}
+use lib.Seq.{sets, length-sets, sets-eq, take-suc, take-take, take-append-le, take_at, drop_at, drop-drop, get_or-take, get_or-drop, length-take-le}
 use borrow.Author.Tests.{le-leb}
 use borrow.Rule.Slice.PartMut.{put_mid}
 use Rattle.byte_stores.specs.Stores.{put_at, Wrote}
@@ -17,6 +17,14 @@ use Rattle.wire.proofs.Lists.{drop_past}
 pub sets-append : (xs vs ws : List ℕ) (i : ℕ) → sets (sets xs i vs) (i + length vs) ws ≡ sets xs i (vs ++ ws)
 sets-append xs [] ws i = rw add-zero
 sets-append xs (v ∷ vs) ws i = rw (add-suc, ← suc-add) (sets-append (set xs i v) vs ws (suc i))
+
+-- one more element of a run is copied
+pub copied_more : (xs vs : List ℕ) (at i : ℕ) → i < length vs → set (sets xs at (take i vs)) (at + i) (get_or vs i 0) ≡ sets xs at (take (i + 1) vs)
+copied_more xs vs at i h =
+    let e : length (take i vs) ≡ i = length-take-le i vs (omega arith) in
+    ap (λ k. set (sets xs at (take i vs)) (at + k) (get_or vs i 0)) (sym e)
+    ∙ sets-append xs (take i vs) (get_or vs i 0 ∷ []) at
+    ∙ ap (sets xs at) (sym (take-suc vs i 0 h) ∙ ap (λ k. take k vs) (sym (add-one i)))
 
 -- a part that became the run
 pub part_put : (xs vs ys : List ℕ) (at k : ℕ) → ys ≡ vs → k ≡ length vs → at + length vs ≤ length xs → put_mid at k xs ys ≡ sets xs at vs

@@ -16,6 +16,8 @@ pub fn put_at(b: &mut [u8], at: usize, t: &[u8]) -> bool
     if b.len() - n < at {
         return false;
     }
-    b[at..at + n].copy_from_slice(t);
+    for i in 0..n {
+        b[at + i] = t[i];
+    }
     true
 }

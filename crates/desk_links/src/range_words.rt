@@ -7,11 +7,11 @@ use script::scan::{Fault, Scan};
 use spans::{Span, handed};
 use std::io;
 
-const RANGE: Short = *b"@#+#____________________";
+pub const RANGE: Short = *b"@#+#____________________";
 
 const START: Short = *b"@_______________________";
 
-fn range_of(n: Numbers) -> Range {
+pub fn range_of(n: Numbers) -> Range {
     Range {
         start: n[0] as u32,
         length: n[1] as u32,

@@ -10,6 +10,7 @@ use Rattle.rnt.specs.declared.CridAuthority.{CridAuthority}
 use Rattle.rnt.specs.declared.ResolutionProvider.{ResolutionProvider}
 use Rattle.rct_index.specs.Index.{no_index}
 use Rattle.rct_index.specs.declared.RctIndex.{RctIndex}
+use Rattle.rct_index.specs.declared.IndexEdited.{IndexEdited}
 use Rattle.flat_link.specs.Links.{fields_flat, link_flat}
 use Rattle.flat_refusal.specs.Refusals.{refusal_of}
 use Rattle.flat_answers.specs.Links.{link_answer, item_answer, step_answer, entry_answer}
@@ -62,6 +63,29 @@ unfolding refusal_of
 fine-told = refl
 
 -- ---- answers that a verdict stands in: it, and each number under its name, whatever it is
+
+-- what an edit's answer and a building's have besides the verdict
+abbrev total_got : Result ℕ Refusal → ℕ
+total_got (Ok n) = n
+total_got (Err r) = 0
+
+abbrev index_got : Result RctIndex Refusal → RctIndex
+index_got (Ok i) = i
+index_got (Err r) = no_index
+
+pub edit-told : (e : Result ℕ Refusal) → edit_answer e ≡ record { refusal = refusal_of (verdict_of e); total = total_got e }
+unfolding edit_answer refusal_of
+edit-told (Ok n) = refl
+edit-told (Err r) = refl
+
+pub index-told : (b : Result RctIndex Refusal) → index_answer b ≡ record { refusal = refusal_of (verdict_of b); index = index_got b }
+unfolding index_answer refusal_of
+index-told (Ok i) = refl
+index-told (Err r) = refl
+
+pub index-edit-told : (e : IndexEdited) → index_edit_answer e ≡ record { refusal = refusal_of (verdict_of e.edited); total = total_got e.edited; index = e.index }
+unfolding index_edit_answer
+index-edit-told e = rw (edit-told e.edited) refl
 
 pub link-told : (k : Result LinkInfo Refusal) → link_answer k ≡ record { refusal = refusal_of (verdict_of k); link = link_flat (link_got k) }
 unfolding link_answer refusal_of

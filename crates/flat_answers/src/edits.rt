@@ -45,18 +45,23 @@ impl EditAnswer {
 }
 
 impl IndexAnswer {
+    // Each arm returns, as those of `EntryAnswer::of` do: merged, the index takes its place on the stack twice.
     pub fn of(built: Result<RctIndex, Refusal>) -> IndexAnswer
         ensures { result ≡ index_answer built }
     {
         match built {
-            Ok(index) => IndexAnswer {
-                refusal: fine(),
-                index,
-            },
-            Err(r) => IndexAnswer {
-                refusal: r,
-                index: RctIndex::none(),
-            },
+            Ok(index) => {
+                return IndexAnswer {
+                    refusal: fine(),
+                    index,
+                };
+            }
+            Err(r) => {
+                return IndexAnswer {
+                    refusal: r,
+                    index: RctIndex::none(),
+                };
+            }
         }
     }
 }

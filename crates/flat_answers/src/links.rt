@@ -3,7 +3,7 @@ ghost use Rattle.std.specs.Prelude.{◌≡◌};
 ghost use Rattle.flat_answers.specs.Links.{link_answer, item_answer, step_answer, entry_answer};
 
 use flat_link::{FlatFields, FlatLink};
-use flat_refusal::{fine, refusal_of};
+use flat_refusal::fine;
 use link::reading::ItemStep;
 use link::{LinkFields, LinkInfo, LinkItem};
 use rct_entries::EntryRead;
@@ -43,18 +43,23 @@ pub struct EntryAnswer {
 }
 
 impl LinkAnswer {
+    // Each arm returns, as those of `EntryAnswer::of` do: merged, the record is copied once more.
     pub fn of(read: Result<LinkInfo, Refusal>) -> LinkAnswer
         ensures { result ≡ link_answer read }
     {
         match read {
-            Ok(link) => LinkAnswer {
-                refusal: fine(),
-                link: FlatLink::of(link),
-            },
-            Err(refusal) => LinkAnswer {
-                refusal,
-                link: FlatLink::of(LinkInfo::none()),
-            },
+            Ok(link) => {
+                return LinkAnswer {
+                    refusal: fine(),
+                    link: FlatLink::of(link),
+                };
+            }
+            Err(refusal) => {
+                return LinkAnswer {
+                    refusal,
+                    link: FlatLink::of(LinkInfo::none()),
+                };
+            }
         }
     }
 }

@@ -6,12 +6,13 @@ use Rattle.wire.specs.declared.verdict.Refusal.{Refusal}
 use Rattle.section_header.specs.declared.SectionHeader.{SectionHeader}
 use Rattle.rct_reader.specs.declared.RctSection.{RctSection}
 use Rattle.rnt_reader.specs.declared.RntSection.{RntSection}
-use Rattle.flat_refusal.specs.Refusals.{no_refusal}
+use Rattle.flat_refusal.specs.Refusals.{no_refusal, refusal_of}
 use Rattle.flat_sections.specs.Sections.{header_flat, no_related, rct_numbers, rct_answer, no_resolution, rnt_numbers, rnt_answer}
 use Rattle.flat_sections.specs.declared.FlatHeader.{FlatHeader}
 use Rattle.flat_sections.specs.declared.RctAnswer.{RctAnswer}
 use Rattle.flat_sections.specs.declared.RntAnswer.{RntAnswer}
-use Rattle.std.specs.Prelude.{Err, Ok}
+use Rattle.std.specs.Prelude.{Err, Ok, Result}
+use Rattle.wire.specs.Verdict.{verdict_of}
 
 pub record HeaderNames (h : SectionHeader) (f : FlatHeader) : Type 0 where
   pub syntax : f.section_syntax_indicator ≡ bit h.section_syntax_indicator
@@ -60,6 +61,16 @@ rct-got s = rct-numbers no_refusal s
 pub rct-refused : (r : Refusal) → RctNames r no_related (rct_answer (Err r))
 unfolding rct_answer
 rct-refused r = rct-numbers r no_related
+
+-- a verdict and what was read, or zeros, whatever a reading answers
+abbrev rct_told : Result RctSection Refusal → RctSection
+rct_told (Ok s) = s
+rct_told (Err r) = no_related
+
+pub rct-names : (s : Result RctSection Refusal) → RctNames (refusal_of (verdict_of s)) (rct_told s) (rct_answer s)
+unfolding refusal_of
+rct-names (Ok s) = rct-got s
+rct-names (Err r) = rct-refused r
 
 pub record RntNames (r : Refusal) (s : RntSection) (f : RntAnswer) : Type 0 where
   pub refusal : f.refusal ≡ r

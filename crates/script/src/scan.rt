@@ -160,6 +160,6 @@ impl<'a> Scan<'a> {
 }
 
 // The place behind so many bytes in two digits each.
-fn behind(at: usize, count: usize) -> usize {
+pub fn behind(at: usize, count: usize) -> usize {
     std::num::wrapping_add_usize(at, std::num::wrapping_add_usize(count, count))
 }

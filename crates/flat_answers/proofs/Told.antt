@@ -8,6 +8,7 @@ use Rattle.link.specs.declared.LinkItem.{LinkItem}
 use Rattle.link.specs.declared.LinkFields.{LinkFields}
 use Rattle.rnt.specs.declared.CridAuthority.{CridAuthority}
 use Rattle.rnt.specs.declared.ResolutionProvider.{ResolutionProvider}
+use Rattle.rct_edit.proofs.Outcomes.{total_got}
 use Rattle.rct_index.specs.Index.{no_index}
 use Rattle.rct_index.specs.declared.RctIndex.{RctIndex}
 use Rattle.rct_index.specs.declared.IndexEdited.{IndexEdited}
@@ -64,11 +65,7 @@ fine-told = refl
 
 -- ---- answers that a verdict stands in: it, and each number under its name, whatever it is
 
--- what an edit's answer and a building's have besides the verdict
-abbrev total_got : Result ℕ Refusal → ℕ
-total_got (Ok n) = n
-total_got (Err r) = 0
-
+-- what a building's answer has besides the verdict; an edit's has a total
 abbrev index_got : Result RctIndex Refusal → RctIndex
 index_got (Ok i) = i
 index_got (Err r) = no_index

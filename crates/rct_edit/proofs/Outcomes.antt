@@ -24,6 +24,17 @@ module _ (v : Verdict) (n : ℕ) (new old : List ℕ) where
   unfolding done reached
   done-goes m ys e w s b a = rw w (a ∙ ap Ok s, b)
 
+-- what an answer has of a total: its own, or 0 beside a refusal
+abbrev pub total_got : Result ℕ Refusal → ℕ
+total_got (Ok n) = n
+total_got (Err r) = 0
+
+-- that is the outcome's
+pub done-total : (v : Verdict) (n : ℕ) (new old : List ℕ) → total_got (answer (done v n new old)) ≡ (done v n new old).total
+unfolding done reached
+done-total (Ok _) n new old = refl
+done-total (Err r) n new old = refl
+
 -- ---- the room
 
 pub record Roomy (room len : ℕ) : Type 0 where
